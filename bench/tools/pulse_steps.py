@@ -1,6 +1,6 @@
 """Steps of the pulse counter, as one number for each plan, to be compared with the proved step.
 
-The tests of crates/try_pulses draw the same states with the same generator, and have the numbers
+The tests of crates/try_layers draw the same states with the same generator, and have the numbers
 that this script prints.
 
     python3 bench/tools/pulse_steps.py

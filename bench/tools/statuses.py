@@ -262,7 +262,11 @@ def draw_cases():
         own_run("draw"),
         (0, ["--page"], traced, (DRAWN / "four_nodes_traced.html").read_bytes(), b""),
         told(1, [], b"refused plan line 1 premise form\n", b"no run to draw: refused plan line 1"),
+        told(1, [], b"refused \x1b[2Jplan\xc3\xa9\n", b"no run to draw: refused [2Jplan\n"),
+        told(1, [], b"refused " + b"a" * LIMIT, b"no run to draw: refused " + b"a" * 192 + b"\n"),
         told(1, [], b"", b"no run to draw: "),
+        told(2, ["page"], traced, b"usage: draw "),
+        told(2, ["--page", "--page"], traced, b"usage: draw "),
     ]
 
 
@@ -272,6 +276,9 @@ def states_cases():
         own_run("states"),
         told(1, [], example("refused_plans/blocks"), b"line "),
         told(1, [], plan + b"node 0 00\n", b"line "),
+        told(1, [], plan + b"values 1\n", b"line "),
+        told(2, ["states"], plan, b"usage: states "),
+        told(8, [], TOO_LONG, b"the input has more than "),
     ]
 
 
@@ -303,7 +310,7 @@ def least_room(program):
     """In how many bytes the program just runs: words outside the table take no memory."""
     for room in range(STEP, 64 * LIMIT, STEP):
         try:
-            if ended(program, [], input=b"", preexec_fn=within(room))[0] == 2:
+            if ended(program, ["none"], input=b"", preexec_fn=within(room))[0] == 2:
                 return room
         except (OSError, subprocess.SubprocessError):
             pass
@@ -373,10 +380,6 @@ def look_at(name, program, looks):
         looks.look(f"{name} --version", said, ended, program, ["--version"], input=b"")
     _, words, text, _, _ = CASES[name]()[0]
     unread, unwritten = b"the input could not be read", b"the answer could not be written"
-    if name == "draw" or name == "states":  # all that goes wrong is 1
-        looks.look(f"{name}, a folder as input", 1, folder_read, program, words)
-        looks.look(f"{name}, output that is full", 1, full_written, program, words, text)
-        return
     full = (7, None, unwritten)
     looks.look(f"{name}, output that is full", full, full_written, program, words, text)
     if name == "choose":  # it reads nothing, and takes little memory

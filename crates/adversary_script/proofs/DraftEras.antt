@@ -43,7 +43,7 @@ with_eras s eras = record s { eras = eras }
 
 module _ (s : Script) (f : IsFormed s) (eras : List kept.Era) (seen : s.eras ≡ map era_seen eras)
   where
-    -- one more era, where there was memory
+    -- one more era, if there was memory
     pub pushed_formed : (ok : Bool) (era : kept.Era) (new : List kept.Era)
         → new ≡ (if ok then eras ++ era ∷ [] else eras) → era.starts.items ≡ [] → length s.eras < 16
         → last_first s < era.first → All (λ id. id < s.nodes) era.faulty.ids
@@ -80,7 +80,7 @@ module _ (s : Script) (f : IsFormed s) (eras : List kept.Era) (seen : s.eras ≡
         (ap (with_eras s) (map-set era_seen eras (length eras - 1) new
         ∙ rw (size, seen, is) refl))
 
-    -- one more start in the last era, where there was memory
+    -- one more start in the last era, if there was memory
     pub started_formed : (ok : Bool) (era new : kept.Era) (start : Start) → 0 < length eras
         → era ≡ get_or eras (length eras - 1) era → new.first ≡ era.first → new.faulty ≡ era.faulty
         → new.starts.items ≡ (if ok then era.starts.items ++ start ∷ [] else era.starts.items)
@@ -108,7 +108,7 @@ pushed_over nodes true era eras new is here all =
 pushed_over nodes false era eras new is here all =
     subst (All (λ (era : kept.Era). era.faulty.nodes ≡ nodes)) (sym is) all
 
--- what holds where there was memory
+-- what holds if there was memory
 pub if_ok : {X E A : Type 0} (r : Result X E) → (is_ok r ≡ true → A) → IfOk r (λ _. A)
 if_ok (Ok x) h = h refl
 if_ok (Err e) h = tt

@@ -16,7 +16,7 @@ use Rattle.adversary_script.specs.FaultySteps.{last_era}
 use Rattle.adversary_script.specs.declared.parts.Era as kept
 use Rattle.adversary_script.specs.Seen.{era_seen}
 
--- where the last era begins, or a where there is none
+-- where the last era begins, or a if there is none
 pub last_is : (a : ℕ) (eras : List Era)
     → unwrap_or (option_map (λ (era : Era). era.first) (last_era eras)) a ≡ get_or
     (a ∷ map (λ (era : Era). era.first) eras) (length eras) 0
@@ -58,7 +58,7 @@ above_first a (b ∷ xs) (suc k) rises lt =
     let rest = above_first b xs k (tail_rises a (b ∷ xs) rises) (omega arith) in
     omega arith
 
--- numbers that rise, and behind them one above the last
+-- numbers that rise, and after them one above the last
 pub rising_pushed : (a b : ℕ) (xs : List ℕ) → IsStrictlyIncreasing (a ∷ xs)
     → get_or (a ∷ xs) (length xs) 0 < b → IsStrictlyIncreasing (a ∷ xs ++ b ∷ [])
 rising_pushed a b [] rises above zero lt = above
@@ -90,7 +90,7 @@ same_with_start f eras era new last same =
     map-set_same f eras (length eras - 1) new era
     (same ∙ ap f (sym (get_or_from_slice_get eras (length eras - 1) era era last)))
 
--- what stands for era j of the code's eras, behind what stands for era 0
+-- what stands for era j of the code's eras, after what stands for era 0
 pub era_at : {Y : Type 0} (f : Era → Y) (zeroth d : Y) (eras : List kept.Era) (j : ℕ)
     (era : kept.Era) → 1 ≤ j → j ≤ length eras → era ≡ get_or eras (j - 1) era
     → f (era_seen era) ≡ get_or (zeroth ∷ map f (map era_seen eras)) j d

@@ -14,7 +14,7 @@ id_below n v (id ∷ ids) all some = elim (or_cases (v == id) (is_in ids v) some
   | inr more ↦ id_below n v ids (λ k d lt. all (suc k) d (omega arith)) more
 ]
 
--- and one in a set of some list is that of a node, where all of those are
+-- and one in a set of some list is that of a node, if all of those are
 pub member_below : (n u : ℕ) (sets : List (List ℕ)) (j : ℕ) → All (All (λ id. id < n)) sets
     → is_in (get_or sets j []) u ≡ true → u < n
 member_below n u [] j all some = absurd (true≢false (sym some))

@@ -53,7 +53,7 @@ skipped P p fails (x ∷ xs) = by (p x) refl (skipped P p fails xs)
         rw test (omega arith) in
         rw (more, fails x test) rest
 
--- where the walk along the lies of u stands: at one of them or behind all, with none before that
+-- where the walk along the lies of u stands: at one of them or after all, with none before that
 -- says what u tells v in round t
 pub record IsAt (groups : List Group) (t u v : ℕ) (lies : List Lie) (at : ℕ) : Type 0 where
   pub sender : (d : Lie) → at < length lies → (get_or lies at d).sender ≡ u

@@ -15,10 +15,11 @@ use Rattle.adversary_script.specs.declared.lies.CommonStart.TheVariants as commo
 use Rattle.adversary_script.specs.declared.lies.Start.{Start}
 use Rattle.adversary_script.specs.declared.lies.Who.{Who}
 use Rattle.adversary_script.specs.declared.lies.What.{What}
-use Rattle.adversary_script.specs.declared.refusals.ScriptError.{ScriptError}
+use Rattle.edge_io.specs.declared.taking.PartError.{PartError}
 use Rattle.adversary_script.specs.Kinds.{may_follow}
 use Rattle.adversary_script.specs.LieWords.{LieSaid, lie_words}
-use Rattle.adversary_script.specs.WordTests.{numbers_in, only, both, is_name, are_below, is_rising}
+use Rattle.adversary_script.specs.WordTests.{only, both, is_name, are_below, is_rising}
+use Rattle.texts.specs.Shapes.{all_numbers}
 use Rattle.adversary_script.specs.WordTests.{are_ids, is_crossed}
 use Rattle.texts.specs.Numbers.{number_of}
 use Rattle.adversary_script.specs.Scripts.{Era, Script, faulty_sets}
@@ -120,7 +121,7 @@ module _ (s : Script) (h : HasEras s) where
 
   group_keeps : (words : List (List ℕ)) → IfOk (group_step s words) HasEras
   group_keeps [] = tt
-  group_keeps (name ∷ words) = group_tested_keeps name (numbers_in words)
+  group_keeps (name ∷ words) = group_tested_keeps name (all_numbers words)
 
   with_lie_keeps : (l : LieSaid) (what : Option What) (who : Option Who)
       → IfOk (with_lie s l what who) HasEras
@@ -147,7 +148,7 @@ module _ (s : Script) (h : HasEras s) where
       guarded HasEras (nat_lt b a || nat_lt s.rounds b) rule.Range _ (λ _. h)
   show_keeps other = tt
 
--- what holds behind a line of a kind, and before all
+-- what holds after a line of a kind, and before all
 abbrev HasErasBehind : Option Kind → Script → Type 0
 HasErasBehind None s = s.eras ≡ []
 HasErasBehind (Some k) s = HasEras s
@@ -177,7 +178,7 @@ line_keeps : (f : ℕ) (last : Option Kind) (k : Kind) (s : Script) (words : Lis
     → may_follow last k ≡ true
     → HasErasBehind last s → IfOk (line_step f k s words) HasEras
 line_keeps f last kind.Script s words may h = head_keeps s (only words) (first_line last s may h)
-line_keeps f last kind.Faulty s words may h = faulty_keeps s (behind last s h) f (numbers_in words)
+line_keeps f last kind.Faulty s words may h = faulty_keeps s (behind last s h) f (all_numbers words)
 line_keeps f last kind.Seed s words may h = seed_keeps s (behind last s h) (only words)
 line_keeps f last kind.StartZero s words may h =
     done_keeps (record s { common = common.Zero }) words (behind last s h)
@@ -187,8 +188,8 @@ line_keeps f last kind.StartNode s words may h = start_keeps s (behind last s h)
 line_keeps f last kind.Era s words may h = era_keeps s (behind last s h) f (era_words words)
 line_keeps f last kind.Group s words may h = group_keeps s (behind last s h) words
 line_keeps f last kind.Lie s words may h = lie_keeps s (behind last s h) (lie_words words)
-line_keeps f last kind.Rounds s words may h = rounds_keeps s (behind last s h) (numbers_in words)
-line_keeps f last kind.Show s words may h = show_keeps s (behind last s h) (numbers_in words)
+line_keeps f last kind.Rounds s words may h = rounds_keeps s (behind last s h) (all_numbers words)
+line_keeps f last kind.Show s words may h = show_keeps s (behind last s h) (all_numbers words)
 line_keeps f last kind.End s words may h = done_keeps s words (behind last s h)
 
 -- so it is of every script that is read
@@ -200,7 +201,7 @@ script_has_eras nodes faults shape number lines =
 
 -- a reading that is exact gives a script of which this holds
 pub read_has_eras : (nodes faults : ℕ) (shape : Shape) (number : ℕ) (lines : List (List ℕ))
-    (r : Result Script ScriptError) → IsAnswerFor nodes faults shape number lines r
+    (r : Result Script (PartError Rule)) → IsAnswerFor nodes faults shape number lines r
     → IfOk r (λ script. script.version ≡ 1 → script.eras ≡ [])
 read_has_eras nodes faults shape number lines (Ok script) is =
     rw is at (script_has_eras nodes faults shape number lines)

@@ -1,4 +1,4 @@
--- Reading the lines of a script one after another, at the front of any text.
+-- Reading the lines of a script one after another, at the beginning of any text.
 use Rattle.std.proofs.Common.{◌≡◌, ℕ, ◌+◌, ◌≤◌, Bool, true, false, List, [], ◌∷◌, ◌++◌, length, map}
 use Rattle.std.proofs.Common.{Option, Some, Result, Ok, refl, ap, ◌∙◌, append_assoc, arith}
 use Rattle.std.specs.Prelude.{◌==◌, if◌then◌else◌, codes}
@@ -40,7 +40,7 @@ End s lines script = (taken number : ℕ) (rest : List ℕ)
     → read_on s taken number (text_of (map joined lines) ++ rest)
     ≡ Ok (record { value = script; taken = taken + length lines; behind = lines_of rest })
 
--- a line that may be printed says a kind, and these words behind it
+-- a line that may be printed says a kind, and these words after it
 pub record IsLineOf (k : Kind) (line behind : List (List ℕ)) : Type 0 where
   pub plain : ArePlain line
   pub short : spaced_length line ≤ 4096
@@ -92,7 +92,7 @@ lead_end s t script a b first next taken number rest =
     ∙ next (taken + length a) (number + length a) rest
     ∙ rw count refl
 
--- one line in front of more
+-- one line before more
 line_more : (line rest : List ℕ) → text_of (line ∷ []) ++ rest ≡ line ++ 10 ∷ rest
 line_more line rest = simp append_assoc
 

@@ -13,9 +13,9 @@ use Rattle.construction.specs.Runs.{IsBorne}
 use Rattle.state_codec.specs.Shapes.{Shape, IsShape}
 use Rattle.adversary_script.specs.declared.kinds.Kind.{Kind}
 use Rattle.adversary_script.specs.declared.kinds.Kind.TheVariants as kind
-use Rattle.adversary_script.specs.declared.refusals.ScriptError.{ScriptError}
+use Rattle.edge_io.specs.declared.taking.PartError.{PartError}
 use Rattle.adversary_script.specs.Kinds.{may_follow}
-use Rattle.adversary_script.specs.WordTests.{numbers_in}
+use Rattle.texts.specs.Shapes.{all_numbers}
 use Rattle.adversary_script.specs.Scripts.{Era, Script, firsts, AreWithin, IsFormed, IsScript}
 use Rattle.adversary_script.specs.Scripts.{empty_script, faulty_sets}
 use Rattle.adversary_script.specs.FaultySteps.{last_first}
@@ -69,18 +69,18 @@ ended_behind : (last : Option Kind) (s : Script) → may_follow last kind.End �
 ended_behind (Some kind.Show) s may closed = closed
 ended_behind last s may closed = absurd (true≢false (sym may))
 
--- a line that may stand behind those that were read keeps that all eras begin within the rounds
+-- a line that may stand after those that were read keeps that all eras begin within the rounds
 pub line_closes : (f : ℕ) (last : Option Kind) (k : Kind) (s : Script) (words : List (List ℕ))
     → may_follow last k ≡ true → IsFormed s → IsClosed last s → IfOk (line_step f k s words)
     (IsClosed (Some k))
-line_closes f last kind.Rounds s words may formed closed = rounds_close s (numbers_in words) formed
+line_closes f last kind.Rounds s words may formed closed = rounds_close s (all_numbers words) formed
 line_closes f last kind.Show s words may formed closed =
-    show_closes s (numbers_in words) (shown_behind last s may closed)
+    show_closes s (all_numbers words) (shown_behind last s may closed)
 line_closes f last kind.End s words may formed closed =
     end_closes s words (ended_behind last s may closed)
 line_closes f last k s words may formed closed = any_ok (line_step f k s words)
 
--- what holds of what was said, behind a line of a kind
+-- what holds of what was said, after a line of a kind
 record IsSoFar (nodes faults : ℕ) (shape : Shape) (last : Option Kind) (s : Script) : Type 0 where
   sound : IsSound nodes faults shape s
   closed : IsClosed last s
@@ -154,7 +154,7 @@ module _ (nodes faults : ℕ) (shape : Shape) (sound : IsShape shape) (number : 
 
 -- a reading that is exact gives a script for its counter
 pub read_fits : (nodes faults : ℕ) (shape : Shape) → IsShape shape
-    → (number : ℕ) (lines : List (List ℕ)) (r : Result Script ScriptError)
+    → (number : ℕ) (lines : List (List ℕ)) (r : Result Script (PartError Rule))
     → IsAnswerFor nodes faults shape number lines r → IfOk r (IsScriptFor nodes faults shape)
 read_fits nodes faults shape sound number lines (Ok script) is =
     rw is at (script_fits nodes faults shape sound number lines)
@@ -181,7 +181,7 @@ script_is_for plan shape sound number lines =
     (script_fits (plan_nodes plan) (plan_faults plan) shape sound number lines)
     (for_plan plan shape)
 
-pub read_is_for : (plan : Plan) (shape : Shape) (r : Result Script ScriptError)
+pub read_is_for : (plan : Plan) (shape : Shape) (r : Result Script (PartError Rule))
     → IfOk r (IsScriptFor (plan_nodes plan) (plan_faults plan) shape) → IfOk r (IsFor plan shape)
 read_is_for plan shape (Ok script) is = for_plan plan shape script is
 read_is_for plan shape (Err e) is = tt

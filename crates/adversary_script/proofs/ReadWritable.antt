@@ -23,7 +23,8 @@ use Rattle.adversary_script.specs.declared.lies.What.{What}
 use Rattle.adversary_script.specs.Kinds.{may_follow}
 use Rattle.adversary_script.specs.LieWords.{LieSaid}
 use Rattle.adversary_script.specs.LieWords.{lie_words}
-use Rattle.adversary_script.specs.WordTests.{numbers_in, only, both, is_name, are_below, is_rising}
+use Rattle.adversary_script.specs.WordTests.{only, both, is_name, are_below, is_rising}
+use Rattle.texts.specs.Shapes.{all_numbers}
 use Rattle.adversary_script.specs.WordTests.{who_below, what_below, are_ids, is_crossed}
 use Rattle.adversary_script.specs.Scripts.{Era, Script, empty_script, faulty_sets, IsScript}
 use Rattle.adversary_script.specs.FaultySteps.{faulty_tested, era_words, last_first, era_tested}
@@ -63,7 +64,7 @@ record IsSoFar (last : Option Kind) (s : Script) : Type 0 where
   said : IsSaid s
   none : HasNone last s
 
--- the first line stands behind none, and that of the faulty nodes behind it
+-- the first line stands after none, and that of the faulty nodes after it
 none_at_first : (last : Option Kind) (s : Script) → may_follow last kind.Script ≡ true
     → HasNone last s → s.lies ≡ []
 none_at_first None s may none = none
@@ -173,7 +174,7 @@ module _ (s : Script) (h : IsSaid s) where
 
   group_says : (words : List (List ℕ)) → IfOk (group_step s words) IsSaid
   group_says [] = tt
-  group_says (name ∷ words) = named_says name (numbers_in words)
+  group_says (name ∷ words) = named_says name (all_numbers words)
 
   told_says : (l : LieSaid) (said : Option What) (who : Option Who) → length s.lies < 256
       → list_any (λ ids. is_in ids l.sender) (faulty_sets s) ≡ true → l.first ≤ l.last
@@ -237,7 +238,7 @@ line_says : (f : ℕ) (last : Option Kind) (k : Kind) (s : Script) (words : List
 line_says f last kind.Script s words may h =
     head_says s h.said (only words) (none_at_first last s may h.none)
 line_says f last kind.Faulty s words may h = so_far kind.Faulty _ (λ s. tt)
-    (faulty_says s h.said f (numbers_in words) (none_behind last s may h.none))
+    (faulty_says s h.said f (all_numbers words) (none_behind last s may h.none))
 line_says f last kind.Seed s words may h = so_far kind.Seed _ (λ s. tt)
     (seed_says s h.said (only words))
 line_says f last kind.StartZero s words may h = so_far kind.StartZero _ (λ s. tt)
@@ -253,9 +254,9 @@ line_says f last kind.Group s words may h = so_far kind.Group _ (λ s. tt)
 line_says f last kind.Lie s words may h = so_far kind.Lie _ (λ s. tt)
     (lie_says s h.said (lie_words words) (lie_small words))
 line_says f last kind.Rounds s words may h = so_far kind.Rounds _ (λ s. tt)
-    (rounds_say s h.said (numbers_in words))
+    (rounds_say s h.said (all_numbers words))
 line_says f last kind.Show s words may h = so_far kind.Show _ (λ s. tt)
-    (show_says s h.said (numbers_in words))
+    (show_says s h.said (all_numbers words))
 line_says f last kind.End s words may h = so_far kind.End _ (λ s. tt)
     (done_says s h.said s words h.said)
 

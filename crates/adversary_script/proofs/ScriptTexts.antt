@@ -204,7 +204,7 @@ module _ (n f : ℕ) (few_nodes : n ≤ 256) (sound_shape : Shape) (sound : IsSh
         range = w.whole.formed.hits k d lt;
       }
 
-  -- where there are further eras the version is 2
+  -- if there are further eras, the version is 2
   newer : 0 < length s.eras → s.version ≡ 2
   newer some =
       let old = w.oldest in

@@ -29,7 +29,8 @@ use Rattle.adversary_script.specs.declared.lies.What.{What}
 use Rattle.adversary_script.specs.declared.lies.What.TheVariants as what
 use Rattle.adversary_script.specs.LieWords.{WhatSaid, noise, copy, digits, shift, LieSaid}
 use Rattle.adversary_script.specs.LieWords.{lie_words}
-use Rattle.adversary_script.specs.WordTests.{numbers_in, only, both, is_name, are_below, is_rising}
+use Rattle.adversary_script.specs.WordTests.{only, both, is_name, are_below, is_rising}
+use Rattle.texts.specs.Shapes.{all_numbers}
 use Rattle.adversary_script.specs.WordTests.{who_below, what_below, are_ids, is_crossed}
 use Rattle.adversary_script.specs.Scripts.{Group, Era, Script, faulty_sets, IsLying, IsFormed}
 use Rattle.adversary_script.specs.FaultySteps.{faulty_tested, era_words, last_era, last_first}
@@ -185,7 +186,7 @@ module _ (nodes faults : ℕ) (shape : Shape) (sound : IsShape shape) (s : Scrip
 
   group_kept : (words : List (List ℕ)) → IfOk (group_step s words) Kept
   group_kept [] = tt
-  group_kept (name ∷ words) = named_kept name (numbers_in words)
+  group_kept (name ∷ words) = named_kept name (all_numbers words)
 
   -- with other faulty nodes in era 0
   with_faulty : (ids : List ℕ) → are_below s.nodes ids ≡ true → IsTolerated nodes faults ids
@@ -375,7 +376,7 @@ module _ (nodes faults : ℕ) (shape : Shape) (sound : IsShape shape) (s : Scrip
   pub line_kept : (k : Kind) (words : List (List ℕ)) → IfOk (line_step faults k s words)
       (IsSound nodes faults shape)
   line_kept kind.Script words = head_kept (only words)
-  line_kept kind.Faulty words = faulty_kept (numbers_in words)
+  line_kept kind.Faulty words = faulty_kept (all_numbers words)
   line_kept kind.Seed words = seed_kept (only words)
   line_kept kind.StartZero words = done_kept _ words (with_others s.version s.key _ s.groups)
   line_kept kind.StartNoise words = done_kept _ words (with_others s.version s.key _ s.groups)
@@ -383,6 +384,6 @@ module _ (nodes faults : ℕ) (shape : Shape) (sound : IsShape shape) (s : Scrip
   line_kept kind.Era words = era_kept (era_words words)
   line_kept kind.Group words = group_kept words
   line_kept kind.Lie words = lie_kept (lie_words words)
-  line_kept kind.Rounds words = rounds_kept (numbers_in words)
-  line_kept kind.Show words = show_kept (numbers_in words)
+  line_kept kind.Rounds words = rounds_kept (all_numbers words)
+  line_kept kind.Show words = show_kept (all_numbers words)
   line_kept kind.End words = done_kept s words h

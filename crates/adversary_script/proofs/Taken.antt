@@ -17,7 +17,7 @@ pub added_ok : {S U : Type 0} (r : Result S Rule) (new : S) (u : U) → Adds r n
 added_ok (Ok s) new u same = ap Ok (sym same)
 added_ok (Err e) new u none = absurd none
 
--- a line is passed in the same way where it counts as the last already
+-- a line is passed in the same way if it counts as the last already
 passed_again : (s : ScriptSoFar) (k : Kind) (script : Script) (final : ScriptSoFar)
     (out : Result (Option Script) (TakeError Rule))
     → Takes (passed (record s { last = Some k; script = script }) k (Ok script)) final out
@@ -54,7 +54,7 @@ refused U s found k words between final (take.Refused rule) (Err given) is may a
     let step = refused_is U (line_step s.faults k s.script words) between rule adds in
     rw (same, is, may, step) refl
 
--- what a line leaves where it was taken
+-- what a line leaves if it was taken
 pub left : (P : Script → Type 0) {U : Type 0} (r : Result Script Rule) (new : Script) (u : U)
     → Adds r new (Ok u) → IfOk r P → P new
 left P r new u adds holds = rw (added_ok r new u adds) at holds

@@ -14,7 +14,7 @@ use Rattle.rand_core.specs.Steps.{word_bytes, fill_via_u32}
 use Rattle.rand_chacha.specs.ChaCha.{ChaCha, next_word}
 use Rattle.adversary_script.specs.Noise.{key_in, noise_word, noise_words, noise_bytes}
 
--- the bytes of the next words of a generator, and where it stands behind them
+-- the bytes of the next words of a generator, and where it stands after them
 pub words_made : (g : ChaCha) (k : ℕ) → g.word_pos + k < 2 ^ 68
     → word_bytes (to_le_bytes w32) (next_word 4) k g ≡ (
       flat_map (to_le_bytes w32)
@@ -132,7 +132,7 @@ part key bytes stream first at count said fits =
 take_front : (xs ys : List ℕ) (n : ℕ) → length xs ≡ n → take n (xs ++ ys) ≡ xs
 take_front xs ys n size = rw (← size) (take-append_seam xs ys)
 
--- the bytes that are made at once, with others behind, and the key of what made them
+-- the bytes that are made at once, with others after them, and the key of what made them
 pub made : (g : ChaCha) (key bytes more : List ℕ) (stream place : ℕ) (new : ChaCha)
     → g ≡ record { key = key_in key; stream = stream; word_pos = place } → place + 64 < 2 ^ 68
     → ◌≡◌ {A = List ℕ × ChaCha} (bytes, new)

@@ -26,7 +26,7 @@ use Rattle.adversary_script.proofs.ReadOn.{IsLineOf, line_counts, lead_none, lea
 use Rattle.adversary_script.proofs.ReadOn.{goes_then}
 use Rattle.adversary_script.proofs.WrittenStarts.{at_middle}
 
--- behind starts, eras and groups there may be groups, lies, and the rounds
+-- after starts, eras and groups there may be groups, lies, and the rounds
 pub record IsGrouped (last : Option Kind) : Type 0 where
   pub group : may_follow last kind.Group ≡ true
   pub lie : may_follow last kind.Lie ≡ true
@@ -55,7 +55,7 @@ module _ (nodes : ℕ) (groups : List Group) (are : AreGroups nodes groups) (i :
   pub group_found : group_at groups name ≡ Some i
   group_found = rw (place_is, lt-ltb i (length groups) lt) refl
 
--- where none has the name, none is found
+-- if none has the name, none is found
 none_found : (groups : List Group) (name : List ℕ)
     → ((k : ℕ) → k < length groups → bytes_eq name (group_in groups k).name ≡ false)
     → group_at groups name ≡ None

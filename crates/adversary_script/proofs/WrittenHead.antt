@@ -27,7 +27,7 @@ use Rattle.adversary_script.proofs.WrittenWords.{ids_rise, key_long, key_plain, 
 use Rattle.adversary_script.proofs.ReadOn.{Lead, IsLineOf, line_counts, lead_then, at}
 use Rattle.adversary_script.proofs.ReadOn.{lead_line, GoesTo}
 
--- behind starts and eras there may be further ones, groups, lies, and the rounds
+-- after starts and eras there may be further ones, groups, lies, and the rounds
 pub record IsStarted (last : Option Kind) : Type 0 where
   pub start : may_follow last kind.StartNode ≡ true
   pub era : may_follow last kind.Era ≡ true
@@ -145,7 +145,7 @@ module _ (f : ℕ) (s : Script) where
         noise refl refl;
   }
 
--- the line of the key, where there is one, and the one behind it
+-- the line of the key, if there is one, and the one after it
 module _ (f : ℕ) (s : Script) (zeros : s.key ≡ replicate 32 0) (key : List ℕ) (is : IsKey key)
     (start : CommonStart) where
   abbrev keyed : Script

@@ -37,12 +37,12 @@ use Rattle.adversary_script.proofs.ReadOn.{goes_then}
 use Rattle.adversary_script.proofs.WrittenStarts.{at_middle}
 use Rattle.adversary_script.proofs.WrittenGroups.{group_found}
 
--- behind starts, eras, groups and lies there may be lies, and the rounds
+-- after starts, eras, groups and lies there may be lies, and the rounds
 pub record IsLied (last : Option Kind) : Type 0 where
   pub lie : may_follow last kind.Lie ≡ true
   pub rounds : may_follow last kind.Rounds ≡ true
 
--- ---- words behind one another
+-- ---- words one after another
 
 plain_both : (a b : List (List ℕ)) → ArePlain a → ArePlain b → ArePlain (a ++ b)
 plain_both [] b first next = next

@@ -29,7 +29,8 @@ use Rattle.state_codec.specs.Shapes.{Fields, IsFields, bytes_in}
 use Rattle.state_codec.specs.Ranges.{InRange}
 use Rattle.state_codec.specs.Texts.{is_lower_digit, written_text, read_text}
 use Rattle.state_codec.proofs.Digits.{text_is_taken, text_reads_back}
-use Rattle.adversary_script.specs.WordTests.{numbers_in, is_letter, is_name, are_below, is_rising}
+use Rattle.adversary_script.specs.WordTests.{is_letter, is_name, are_below, is_rising}
+use Rattle.texts.specs.Shapes.{all_numbers}
 use Rattle.adversary_script.specs.LieSteps.{state_of_digits}
 use Rattle.adversary_script.specs.Steps.{decoded_bytes, key_of_digits}
 use Rattle.adversary_script.specs.Writable.{IsKey}
@@ -54,7 +55,8 @@ numbers_plain (n ∷ ns) small = (
   numbers_plain ns (All-tail (λ n. n < 10 ^ 15) n ns small),
 )
 
-pub numbers_read : (ns : List ℕ) → All (λ n. n < 10 ^ 15) ns → numbers_in (map decimal ns) ≡ Some ns
+pub numbers_read : (ns : List ℕ) → All (λ n. n < 10 ^ 15) ns → all_numbers (map decimal ns)
+    ≡ Some ns
 numbers_read [] small = refl
 numbers_read (n ∷ ns) small = rw (
   number_read n (All-head (λ n. n < 10 ^ 15) n ns small),

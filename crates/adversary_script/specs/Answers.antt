@@ -1,6 +1,5 @@
 -- What taking a line of a script, or a part of it, answers. Want of memory says nothing.
 use Rattle.std.specs.Prelude.{◌≡◌, ℕ, List, Option, Some, None, Result, Ok, Err}
-use Rattle.std.specs.Option.{option_map}
 use Rattle.sync_types.specs.declared.answers.Rule.{Rule}
 use Rattle.edge_io.specs.declared.taking.TakeError.{TakeError}
 use Rattle.edge_io.specs.declared.taking.TakeError.TheVariants as take
@@ -19,14 +18,7 @@ Gives defined (Err take.NoMemory) = Unit {0}
 Gives defined (Err (take.Refused rule)) = ⊥
 Gives defined (Ok found) = found ≡ defined
 
--- what is given stands for the choice that is defined, and no rule refuses it
-abbrev pub GivesSeen : {X Y : Type 0} → (X → Y) → Option Y → Result (Option X) (TakeError Rule)
-    → Type 0
-GivesSeen seen defined (Err take.NoMemory) = Unit {0}
-GivesSeen seen defined (Err (take.Refused rule)) = ⊥
-GivesSeen seen defined (Ok found) = option_map seen found ≡ defined
-
--- what is read at the front of words is what is defined, and these words are left
+-- what is read at the beginning of words is what is defined, and these words are left
 abbrev pub ReadsFront : {X : Type 0} → Option X → Option (X × List (List ℕ))
     → (left : List (List ℕ)) → Type 0
 ReadsFront None defined left = defined ≡ None

@@ -14,7 +14,7 @@ module _ (s : Script) where
   abbrev pub first_of_era : ℕ → ℕ
   first_of_era j = slice_index (firsts s) j
 
-  -- the first configuration behind era j
+  -- the first configuration after era j
   abbrev pub end_of_era : ℕ → ℕ
   end_of_era j = if nat_lt j (length s.eras) then first_of_era (j + 1) else s.rounds + 1
 

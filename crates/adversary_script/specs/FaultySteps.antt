@@ -7,7 +7,8 @@ use Rattle.std.specs.Str.{bytes_eq}
 use Rattle.texts.specs.Numbers.{number_of}
 use Rattle.sync_types.specs.declared.answers.Rule.{Rule}
 use Rattle.sync_types.specs.declared.answers.Rule.TheVariants.{Form, Limit, Node, Order, Faults}
-use Rattle.adversary_script.specs.WordTests.{numbers_in, are_below, is_rising}
+use Rattle.adversary_script.specs.WordTests.{are_below, is_rising}
+use Rattle.texts.specs.Shapes.{all_numbers}
 use Rattle.adversary_script.specs.Scripts.{Era, Script}
 
 -- `faulty` and ids, of which there are f at most
@@ -19,17 +20,17 @@ faulty_tested f s (Some ids) =
     else if nat_lt f (length ids) then Err Faults
     else Ok (record s { faulty = ids })
 
--- the number of `A faulty`, and the words behind
+-- the number of `A faulty`, and the words after it
 abbrev pub era_front : List (List ℕ) → Option (ℕ × List (List ℕ))
 era_front (a ∷ key ∷ words) =
     if bytes_eq key (codes "faulty") then option_map (λ first. (first, words)) (number_of a)
     else None
 era_front other = None
 
--- a number, and the ids that the words behind it are
+-- a number, and the ids that the words after it are
 abbrev pub with_ids : Option (ℕ × List (List ℕ)) → Option (ℕ × List ℕ)
 with_ids None = None
-with_ids (Some front) = option_map (λ ids. (front.0, ids)) (numbers_in front.1)
+with_ids (Some front) = option_map (λ ids. (front.0, ids)) (all_numbers front.1)
 
 -- `A faulty` and ids
 abbrev pub era_words : List (List ℕ) → Option (ℕ × List ℕ)
@@ -58,6 +59,6 @@ era_tested f s (Some said) =
     else if nat_lt f (length said.1) then Err Faults
     else Ok (with_era s said.0 said.1)
 
--- `era A faulty` and ids, by the words behind the first
+-- `era A faulty` and ids, by the words after the first
 abbrev pub era_step : (f : ℕ) → Script → List (List ℕ) → Result Script Rule
 era_step f s words = era_tested f s (era_words words)

@@ -5,7 +5,7 @@ use Rattle.std.specs.Str.{bytes_eq}
 use Rattle.adversary_script.specs.declared.kinds.Kind.{Kind}
 use Rattle.adversary_script.specs.declared.kinds.Kind.TheVariants as kind
 
--- a start line's kind, by the word behind `start`, and the words behind that
+-- a start line's kind, by the word after `start`, and the words after that
 abbrev pub start_kind : List (List ℕ) → Option (Kind × List (List ℕ))
 start_kind [] = None
 start_kind (word ∷ words) =
@@ -14,7 +14,7 @@ start_kind (word ∷ words) =
     else if bytes_eq word (codes "node") then Some (kind.StartNode, words)
     else None
 
--- a line's kind, and the words behind those that say it
+-- a line's kind, and the words after those that say it
 abbrev pub kind_of : List (List ℕ) → Option (Kind × List (List ℕ))
 kind_of [] = None
 kind_of (word ∷ words) =
@@ -30,7 +30,7 @@ kind_of (word ∷ words) =
     else if bytes_eq word (codes "end") then Some (kind.End, words)
     else None
 
--- what may stand behind a start: further starts of nodes, eras, groups, lies, and the rounds
+-- what may stand after a start: further starts of nodes, eras, groups, lies, and the rounds
 abbrev pub may_follow_start : Kind → Bool
 may_follow_start kind.StartNode = true
 may_follow_start kind.Era = true
@@ -39,7 +39,7 @@ may_follow_start kind.Lie = true
 may_follow_start kind.Rounds = true
 may_follow_start other = false
 
--- whether a line of a kind may stand behind one of another, or first
+-- whether a line of a kind may stand after one of another, or first
 abbrev pub may_follow : Option Kind → Kind → Bool
 may_follow None kind.Script = true
 may_follow (Some kind.Script) kind.Faulty = true

@@ -13,7 +13,6 @@ pub mod NoiseSaid
 pub mod Rounds
 pub mod ScriptLaws
 pub mod ScriptPart
-pub mod ScriptRefusals
 pub mod ScriptTexts
 pub mod Scripts
 pub mod Seen

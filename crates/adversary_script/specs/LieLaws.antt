@@ -1,4 +1,4 @@
--- What a lie that copies says, where what it copies is a state of the sender's own fields.
+-- What a lie that copies says, if what it copies is a state of the sender's own fields.
 use Rattle.std.specs.Prelude.{◌≡◌, ℕ, ◌<◌, List}
 use Rattle.sync_types.specs.States.{State}
 use Rattle.construction.specs.Steps.{state_of}

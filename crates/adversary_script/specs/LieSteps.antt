@@ -18,7 +18,7 @@ use Rattle.adversary_script.specs.WordTests.{are_ids, is_crossed}
 use Rattle.adversary_script.specs.Scripts as scripts
 use Rattle.adversary_script.specs.Scripts.{Script, faulty_sets}
 
--- the state of hex digits, where they are just those of a state with these fields
+-- the state of hex digits, if they are just those of a state with these fields
 abbrev pub state_of_digits : Fields → List ℕ → Option State
 state_of_digits fields word =
     if is_state_text fields word then Some (read_text fields word) else None
@@ -27,13 +27,13 @@ state_of_digits fields word =
 abbrev pub group_at : List scripts.Group → List ℕ → Option ℕ
 group_at groups name = position (λ group. bytes_eq name group.name) groups
 
--- who hears, where a name is that of a group
+-- who hears, if a name is that of a group
 abbrev pub who_of : List scripts.Group → WhoSaid → Option Who
 who_of groups everyone = Some All
 who_of groups (between p q) = Some (Ids p q)
 who_of groups (named name) = option_map Group (group_at groups name)
 
--- what the lie says of a sender with these fields, where hex digits are those of a state of it
+-- what the lie says of a sender with these fields, if hex digits are those of a state of it
 abbrev pub what_of : Fields → WhatSaid → Option What
 what_of fields noise = Some what.Noise
 what_of fields (copy w) = Some (what.Copy w)
@@ -58,6 +58,6 @@ lie_tested s (Some l) =
     else if nat_lt l.last l.first || is_crossed l.who then Err Range
     else with_lie s l (what_of (fields_at s.shape l.sender) l.what) (who_of s.groups l.who)
 
--- `lie A B U to WHO WHAT`, by the words behind the first
+-- `lie A B U to WHO WHAT`, by the words after the first
 abbrev pub lie_step : Script → List (List ℕ) → Result Script Rule
 lie_step s words = lie_tested s (lie_words words)

@@ -1,4 +1,4 @@
--- The words of a lie behind its first: `A B U to WHO WHAT`.
+-- The words of a lie after its first: `A B U to WHO WHAT`.
 use Rattle.std.specs.Prelude.{◌≡◌, ℕ, List, [], ◌∷◌, Option, Some, None, if◌then◌else◌, codes}
 use Rattle.std.specs.Option.{option_map}
 use Rattle.std.specs.Str.{bytes_eq}
@@ -30,7 +30,7 @@ pub record LieSaid : Type 0 where
   pub who : WhoSaid
   pub what : WhatSaid
 
--- `Q`, and the words behind
+-- `Q`, and the words after it
 abbrev pub up_to : ℕ → List (List ℕ) → Option (WhoSaid × List (List ℕ))
 up_to p [] = None
 up_to p (word ∷ words) = option_map (λ q. (between p q, words)) (number_of word)
@@ -40,7 +40,7 @@ abbrev pub who_by : Option ℕ → List ℕ → List (List ℕ) → Option (WhoS
 who_by None word words = Some (named word, words)
 who_by (Some p) word words = up_to p words
 
--- WHO, and the words behind
+-- WHO, and the words after it
 abbrev pub who_words : List (List ℕ) → Option (WhoSaid × List (List ℕ))
 who_words [] = None
 who_words (word ∷ words) =

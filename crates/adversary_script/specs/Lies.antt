@@ -38,7 +38,7 @@ abbrev pub value_below : (modulus : ℕ) → Option ℕ → Option ℕ
 value_below modulus None = None
 value_below modulus (Some a) = below modulus a
 
--- a register with its value where that is below the modulus; one that is lacking is zero
+-- a register with its value if that is below the modulus; one that is lacking is zero
 unfoldable pub fitted_register : (modulus : ℕ) → Reg → Reg
 fitted_register modulus register =
     if modulus == 0 then zero_register
@@ -71,8 +71,7 @@ own_or_common script None v = common_start script script.common v
 unfoldable pub start_of : Script → ℕ → State
 start_of script v = own_or_common script (start_for script v) v
 
--- the state that a lie gives, where u tells it to v in round t, which begins with that
--- configuration
+-- the state that a lie gives, when u tells it to v in round t, which begins with that configuration
 abbrev pub lie_state : Script → (t u v : ℕ) → List State → What → State
 lie_state script t u v config what.Noise =
     noise_state (fields_at script.shape u) script.key (256 * u + v) t
@@ -81,7 +80,7 @@ lie_state script t u v config (what.State state) = state
 lie_state script t u v config (what.Shift by) =
     shifted by (fields_at script.shape u) (state_of config u)
 
--- that of the lie, or the puppet's state where there is none
+-- that of the lie, or the puppet's state if there is none
 abbrev pub lie_or_puppet : Script → (t u v : ℕ) → List State → Option Lie → State
 lie_or_puppet script t u v config None = state_of config u
 lie_or_puppet script t u v config (Some lie) = lie_state script t u v config lie.what

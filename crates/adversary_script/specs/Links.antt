@@ -8,7 +8,7 @@ use Rattle.adversary_script.specs.declared.lies.Lie.{Lie}
 abbrev pub place_from : List Lie → (u from : ℕ) → ℕ
 place_from lies u from = from + position_or_len (λ lie. lie.sender == u) (drop from lies)
 
--- the first lie of each of n nodes, from a place on, and behind each lie from there on the next one
+-- the first lie of each of n nodes, from a place on, and after each lie from there on the next one
 -- of its sender
 pub record IsLinkedFrom (from n : ℕ) (lies : List Lie) (firsts nexts : List ℕ) : Type 0 where
   pub nodes : length firsts ≡ n

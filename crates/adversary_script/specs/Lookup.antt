@@ -39,7 +39,7 @@ start_in starts v = option_map (λ start. start.state) (find (λ start. start.no
 abbrev pub start_for : Script → ℕ → Option State
 start_for script v = start_in script.starts v
 
--- the state that node v is put into where an era begins with configuration t
+-- the state that node v is put into if an era begins with configuration t
 abbrev pub hit_at : Script → (t v : ℕ) → Option State
 hit_at script t v =
     option_and_then (λ era. start_in era.starts v) (find (λ era. era.first == t) script.eras)

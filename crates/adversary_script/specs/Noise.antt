@@ -33,7 +33,7 @@ noise_bytes key stream first count =
 abbrev pub words_in : Fields → ℕ
 words_in fields = div_ceil (bytes_in fields) 4
 
--- the state of noise of a turn: each turn of a stream has the words behind those of the turn before
+-- the state of noise of a turn: each turn of a stream has the words after those of the turn before
 unfoldable pub noise_state : Fields → (key : List ℕ) → (stream turn : ℕ) → State
 noise_state fields key stream turn =
     read fields (noise_bytes key stream (turn * words_in fields) (bytes_in fields))

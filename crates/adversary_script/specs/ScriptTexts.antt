@@ -26,7 +26,7 @@ version_line version = codes "script" ∷ decimal version ∷ []
 abbrev pub faulty_line : List ℕ → List (List ℕ)
 faulty_line ids = codes "faulty" ∷ map decimal ids
 
--- the key's line, which is left out where the key is zeros
+-- the key's line, which is left out if the key is zeros
 abbrev pub seed_lines : List ℕ → List (List (List ℕ))
 seed_lines key =
     if bytes_eq key (replicate 32 0) then [] else (codes "seed" ∷ encode_lower key ∷ []) ∷ []

@@ -78,7 +78,7 @@ IsLying n fields (what.Shift d) = ⊤
 abbrev pub AreInRange : Shape → List Start → Type 0
 AreInRange shape starts = All (λ start. InRange (fields_at shape start.node) start.state) starts
 
--- what holds of a script behind each of its lines
+-- what holds of a script after each of its lines
 pub record IsFormed (s : Script) : Type 0 where
   pub ids : All (All (λ id. id < s.nodes)) (faulty_sets s)
   pub senders : All (λ lie. lie.sender < s.nodes) s.lies

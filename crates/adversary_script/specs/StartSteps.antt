@@ -17,7 +17,7 @@ use Rattle.adversary_script.specs.FaultySteps.{last_era}
 abbrev pub is_above : List Start → ℕ → Bool
 is_above starts v = list_all (λ start. nat_lt start.node v) starts
 
--- the starts of a further era, or those of era 0 where there is none
+-- the starts of a further era, or those of era 0 if there is none
 abbrev pub starts_in : Script → Option Era → List Start
 starts_in s None = s.starts
 starts_in s (Some era) = era.starts
@@ -26,7 +26,7 @@ starts_in s (Some era) = era.starts
 abbrev pub last_starts : Script → List Start
 last_starts s = starts_in s (last_era s.eras)
 
--- one more start in the last further era, or in era 0 where there is none
+-- one more start in the last further era, or in era 0 if there is none
 abbrev pub started : Script → Option Era → Start → Script
 started s None start = record s { starts = s.starts ++ start ∷ [] }
 started s (Some era) start = record s {

@@ -10,13 +10,14 @@ use Rattle.state_codec.specs.Texts.{is_lower_digit}
 use Rattle.adversary_script.specs.declared.kinds.Kind.{Kind}
 use Rattle.adversary_script.specs.declared.kinds.Kind.TheVariants as kind
 use Rattle.adversary_script.specs.declared.lies.CommonStart.TheVariants as common
-use Rattle.adversary_script.specs.WordTests.{numbers_in, only, both, is_name, are_below, is_rising}
+use Rattle.adversary_script.specs.WordTests.{only, both, is_name, are_below, is_rising}
+use Rattle.texts.specs.Shapes.{all_numbers}
 use Rattle.adversary_script.specs.Scripts.{Script}
 use Rattle.adversary_script.specs.FaultySteps.{faulty_tested, last_first, era_step}
 use Rattle.adversary_script.specs.StartSteps.{start_step}
 use Rattle.adversary_script.specs.LieSteps.{group_at, lie_step}
 
--- nothing stands behind the words of the kind
+-- nothing stands after the words of the kind
 abbrev pub done : Script → List (List ℕ) → Result Script Rule
 done s [] = Ok s
 done s (word ∷ words) = Err rule.Form
@@ -62,7 +63,7 @@ group_tested s name (Some (id ∷ ids)) =
 -- `group NAME` and ids
 abbrev pub group_step : Script → List (List ℕ) → Result Script Rule
 group_step s [] = Err rule.Form
-group_step s (name ∷ words) = group_tested s name (numbers_in words)
+group_step s (name ∷ words) = group_tested s name (all_numbers words)
 
 -- `rounds R`; what is shown of them is said by the next line
 abbrev pub rounds_tested : Script → Option (List ℕ) → Result Script Rule
@@ -79,10 +80,10 @@ show_tested s (Some (a ∷ b ∷ [])) =
     else Ok (record s { first = a; last = b })
 show_tested s other = Err rule.Form
 
--- a line of a kind, by the words behind; f ids at most may be faulty
+-- a line of a kind, by the words after it; f ids at most may be faulty
 abbrev pub line_step : (f : ℕ) → Kind → Script → List (List ℕ) → Result Script Rule
 line_step f kind.Script s words = head_tested s (only words)
-line_step f kind.Faulty s words = faulty_tested f s (numbers_in words)
+line_step f kind.Faulty s words = faulty_tested f s (all_numbers words)
 line_step f kind.Seed s words = seed_tested s (only words)
 line_step f kind.StartZero s words = done (record s { common = common.Zero }) words
 line_step f kind.StartNoise s words = done (record s { common = common.Noise }) words
@@ -90,6 +91,6 @@ line_step f kind.StartNode s words = start_step s (both words)
 line_step f kind.Era s words = era_step f s words
 line_step f kind.Group s words = group_step s words
 line_step f kind.Lie s words = lie_step s words
-line_step f kind.Rounds s words = rounds_tested s (numbers_in words)
-line_step f kind.Show s words = show_tested s (numbers_in words)
+line_step f kind.Rounds s words = rounds_tested s (all_numbers words)
+line_step f kind.Show s words = show_tested s (all_numbers words)
 line_step f kind.End s words = done s words

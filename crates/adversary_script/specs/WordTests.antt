@@ -2,23 +2,16 @@
 use Rattle.std.specs.Prelude.{ℕ, List, [], ◌∷◌, length, Bool, true, false, ◌&&◌, nat_le, nat_lt}
 use Rattle.std.specs.Prelude.{Option, Some, None}
 use Rattle.std.specs.List.{list_all, list_any}
-use Rattle.texts.specs.Numbers.{number_of}
-use Rattle.texts.specs.Shapes.{onto_numbers}
 use Rattle.sync_types.specs.FaultSets.{is_in}
 use Rattle.adversary_script.specs.LieWords.{WhoSaid, everyone, between, named, WhatSaid, copy}
 use Rattle.adversary_script.specs.LieWords.{LieSaid}
 
--- the numbers of the words, where each is one
-abbrev pub numbers_in : List (List ℕ) → Option (List ℕ)
-numbers_in [] = Some []
-numbers_in (word ∷ words) = onto_numbers (number_of word) (numbers_in words)
-
--- the one word, where there is just one
+-- the one word, if there is just one
 abbrev pub only : List (List ℕ) → Option (List ℕ)
 only (word ∷ []) = Some word
 only other = None
 
--- the two words, where there are just two
+-- the two words, if there are just two
 abbrev pub both : List (List ℕ) → Option (List ℕ × List ℕ)
 both (first ∷ second ∷ []) = Some (first, second)
 both other = None

@@ -59,7 +59,7 @@ abbrev pub IsSayable : What → Type 0
 IsSayable (what.Shift by) = by < 10 ^ 15
 IsSayable other = ⊤
 
--- a lie of a node that is faulty in one of these sets, from a round to a later one, whose number
+-- a lie of a node that is faulty in one of these sets; its last round is not before its first, and
 -- has at most 15 digits
 pub record IsLie (nodes : ℕ) (groups : List Group) (sets : List (List ℕ)) (lie : Lie) : Type 0 where
   pub faulty : list_any (λ ids. is_in ids lie.sender) sets ≡ true
@@ -68,8 +68,8 @@ pub record IsLie (nodes : ℕ) (groups : List Group) (sets : List (List ℕ)) (l
   pub who : IsHeard nodes groups lie.who
   pub what : IsSayable lie.what
 
--- A script for n nodes, of which f may be faulty, and states of a shape that a text says: in version
--- 1 it has no further eras, and it has at most 256 lies.
+-- A script for n nodes, of which f may be faulty, and states of a shape that a text says: in
+-- version 1 it has no further eras, and it has at most 256 lies.
 pub record IsWritableFor (n f : ℕ) (shape : Shape) (s : Script) : Type 0 where
   pub for : IsScriptFor n f shape s
   pub whole : IsScript s

@@ -27,7 +27,7 @@ pub struct Draft<'a> {
     parts: Parts,
 }
 
-// Written out, so that what lets go of one calls this, and no more.
+// Written out, so that code that drops one has a single call.
 impl<'a> Drop for Draft<'a> {
     fn drop(self) {
         let Draft {
@@ -102,7 +102,7 @@ impl<'a> Draft<'a> {
         requires { faulty.nodes ≡ self.old.nodes }
         ensures { self.new ≡ record self.old { faulty = faulty.ids } }
     {
-        faulty.tell();
+        faulty.facts();
         drop(self.faulty.replace(faulty));
     }
 
@@ -139,7 +139,7 @@ impl<'a> Draft<'a> {
         requires nodes { faulty.nodes ≡ self.old.nodes }
         ensures { IfOk result (λ _. self.new ≡ with_era self.old first faulty.ids) }
     {
-        faulty.tell();
+        faulty.facts();
         self.parts.eras.push(Era {
             first,
             faulty,
@@ -266,7 +266,7 @@ impl<'a> Draft<'a> {
         self.shape
     }
 
-    /// How many eras there are behind the first.
+    /// How many eras there are after the first.
     pub fn era_count(&self) -> usize
         ensures { result ≡ length self.now.eras }
     {

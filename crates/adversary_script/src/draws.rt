@@ -8,7 +8,7 @@ use state_codec::StateShape;
 use sync_types::NodeState;
 
 /// A state of noise: that of node `v` of a shape, in a turn of a stream. Each turn has the words
-/// behind those of the turn before.
+/// after those of the turn before.
 #[derive(Clone, Copy)]
 pub struct Draw<'a> {
     pub shape: &'a StateShape,
@@ -35,7 +35,7 @@ impl Draw<'_> {
         self.turn * self.count().div_ceil(4) as u64
     }
 
-    /// Reads it from the front of bytes into `out`; eight bytes more stand behind it.
+    /// Reads it from the beginning of bytes into `out`; eight bytes more stand after it.
     pub fn read(&self, bytes: &[u8], out: &mut NodeState)
         requires within { bytes_in (fields_at self.now.shape.now self.now.v) + 8
             ≤ length bytes.now }

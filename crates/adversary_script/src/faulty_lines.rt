@@ -1,18 +1,18 @@
 ghost use Rattle.adversary_script.specs.Answers.{Adds, ReadsFront};
-ghost use Rattle.adversary_script.specs.WordTests.{numbers_in};
+ghost use Rattle.texts.specs.Shapes.{all_numbers};
 ghost use Rattle.adversary_script.specs.FaultySteps.{faulty_tested, era_front, era_step};
 
 use crate::drafts::Draft;
 use crate::id_sets::id_set;
-use crate::word_tests::{are_below, is_rising, numbers};
-use edge_io::{TakeError, Words, number};
+use crate::word_tests::{are_below, is_rising};
+use edge_io::{TakeError, Words, all_numbers, number};
 use std::alloc::Global;
 use sync_types::Rule;
 
-/// The most eras that a script may have behind the first.
+/// The most eras that a script may have after the first.
 const MOST_ERAS: usize = 16;
 
-/// Takes the first two words of an era, behind the one that says the kind: `A faulty`.
+/// Takes the first two words of an era, after the one that says the kind: `A faulty`.
 fn era_front(words: &mut Words) -> Option<u64>
     ensures { ReadsFront result (era_front words.old) words.new }
 {
@@ -31,9 +31,9 @@ impl<'a> Draft<'a> {
         words: Words,
         faults: u32,
     ) -> Result<(), TakeError<Rule>>
-        ensures { Adds (faulty_tested faults self.old (numbers_in words.entry)) self.new result }
+        ensures { Adds (faulty_tested faults self.old (all_numbers words.entry)) self.new result }
     {
-        let Some(ids) = numbers(alloc, words)? else {
+        let Some(ids) = all_numbers(alloc, words)? else {
             return Err(TakeError::Refused(Rule::Form));
         };
         if !are_below(self.nodes(), &ids) {
@@ -50,7 +50,7 @@ impl<'a> Draft<'a> {
         Ok(())
     }
 
-    /// Takes the line of an era, of whose ids there are `faults` at most, behind its first word.
+    /// Takes the line of an era, which has at most `faults` ids, after its first word.
     pub fn take_era(
         &mut self,
         alloc: Global,
@@ -63,7 +63,7 @@ impl<'a> Draft<'a> {
         let Some(first) = era_front(&mut words) else {
             return Err(TakeError::Refused(Rule::Form));
         };
-        let Some(ids) = numbers(alloc, words)? else {
+        let Some(ids) = all_numbers(alloc, words)? else {
             return Err(TakeError::Refused(Rule::Form));
         };
         if self.version() == 1 {

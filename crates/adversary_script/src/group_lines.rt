@@ -3,8 +3,8 @@ ghost use Rattle.adversary_script.specs.Steps.{group_step};
 
 use crate::drafts::Draft;
 use crate::id_sets::id_set;
-use crate::word_tests::{are_below, is_name, is_rising, numbers};
-use edge_io::{TakeError, Words};
+use crate::word_tests::{are_below, is_name, is_rising};
+use edge_io::{TakeError, Words, all_numbers};
 use std::alloc::Global;
 use sync_types::Rule;
 
@@ -20,7 +20,7 @@ impl<'a> Draft<'a> {
         let Some(name) = words.next() else {
             return Err(TakeError::Refused(Rule::Form));
         };
-        let Some(ids) = numbers(alloc, words)? else {
+        let Some(ids) = all_numbers(alloc, words)? else {
             return Err(TakeError::Refused(Rule::Form));
         };
         if ids.is_empty() {

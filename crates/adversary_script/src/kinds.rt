@@ -33,7 +33,7 @@ pub enum Kind {
     End,
 }
 
-/// Takes the word behind `start`, which says of which kind the line is.
+/// Takes the word after `start`, which says of which kind the line is.
 fn start_kind(words: &mut Words) -> Option<Kind>
     ensures { ReadsFront result (start_kind words.old) words.new }
 {
@@ -88,7 +88,7 @@ pub fn read_kind(words: &mut Words) -> Option<Kind>
     None
 }
 
-/// Whether a line of a kind may stand behind a start, or behind an era.
+/// Whether a line of a kind may stand after a start, or after an era.
 fn may_follow_start(kind: Kind) -> bool
     ensures { result ≡ may_follow_start kind }
 {
@@ -99,7 +99,7 @@ fn may_follow_start(kind: Kind) -> bool
         || kind == Kind::Rounds
 }
 
-/// Whether a line of a kind may stand behind one of another, or first where there is no other.
+/// Whether a line of a kind may stand after one of another, or first if there is no other.
 pub fn may_follow(last: Option<Kind>, kind: Kind) -> bool
     ensures { result ≡ may_follow last kind }
 {

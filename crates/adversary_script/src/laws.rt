@@ -4,8 +4,8 @@ ghost use Rattle.adversary_script.specs.LieLaws.{FittedIsSame, CopyIsSame};
 ghost use Rattle.adversary_script.specs.ScriptLaws.{ScriptTextIsRead, ScriptTextIsWhole};
 ghost use Rattle.adversary_script.specs.ScriptLaws.{ReadIsWritable};
 
-/// The text of each script that a text can say is read as this script, at the front of any text,
-/// and alone.
+/// The text of each script that a text can say is read as this script, at the beginning of any
+/// text, and alone.
 pub fn script_texts_read_back()
     ensures front { ScriptTextIsRead }
     ensures whole { ScriptTextIsWhole }

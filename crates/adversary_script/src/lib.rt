@@ -31,7 +31,6 @@ mod lying;
 mod noise;
 mod parts;
 mod reading;
-mod refusals;
 mod script_lines;
 mod scripts;
 mod shifting;
@@ -41,7 +40,6 @@ mod stretches;
 mod word_tests;
 
 pub use noise::Noise;
-pub use reading::{read_script, read_script_for};
-pub use refusals::{ScriptError, ScriptRefusal};
+pub use reading::{ScriptError, ScriptRefusal, read_script, read_script_for};
 pub use scripts::Script;
 pub use shifting::shift_into;

@@ -19,7 +19,7 @@ use sync_types::{NoMemory, NodeState, Rule};
 /// The most rules of lies that a script may have.
 const MOST_LIES: usize = 256;
 
-/// The state of hex digits, or none where they are not just those of a state of node `v`.
+/// The state of hex digits, or none if they are not just those of a state of node `v`.
 pub fn state_of_digits(
     alloc: Global,
     shape: &StateShape,
@@ -40,8 +40,7 @@ pub fn state_of_digits(
     }
 }
 
-/// What a lie of a sender says, or nothing where its hex digits are not just those of a state of
-/// it.
+/// What a lie of a sender says, or nothing if its hex digits are not just those of a state of it.
 fn what_of(
     alloc: Global,
     shape: &StateShape,
@@ -67,7 +66,7 @@ fn what_of(
 }
 
 impl<'a> Draft<'a> {
-    /// Who hears a lie, or none where no group has the name.
+    /// Who hears a lie, or none if no group has the name.
     fn who_of(&self, who: &WhoWords) -> Option<Who>
         ensures { result ≡ who_of self.now.groups (who_seen who.now) }
     {
@@ -99,7 +98,7 @@ impl<'a> Draft<'a> {
             && what_below(nodes, &line.what)
     }
 
-    /// Takes a line of a lie, behind its first word.
+    /// Takes a line of a lie, after its first word.
     pub fn take_lie(&mut self, alloc: Global, words: &mut Words) -> Result<(), TakeError<Rule>>
         ensures { Adds (lie_step self.old words.old) self.new result }
     {

@@ -29,7 +29,7 @@ pub enum WhatWords<'a> {
     Shift(u64),
 }
 
-/// The words of a lie behind its first: `A B U to WHO WHAT`.
+/// The words of a lie after its first: `A B U to WHO WHAT`.
 #[derive(Clone, Copy)]
 pub struct LieWords<'a> {
     pub first: u64,
@@ -86,7 +86,7 @@ fn what_words<'a>(words: &mut Words<'a>) -> Option<WhatWords<'a>>
     None
 }
 
-/// Takes the words of a lie behind its first, to the end of the line.
+/// Takes the words of a lie after its first, to the end of the line.
 pub fn lie_words<'a>(words: &mut Words<'a>) -> Option<LieWords<'a>>
     ensures { option_map lie_seen result ≡ lie_words words.old }
 {

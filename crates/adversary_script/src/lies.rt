@@ -43,7 +43,7 @@ pub struct Lie {
     pub what: What,
 }
 
-// Written out, so that what lets go of one calls this, and no more.
+// Written out, so that code that drops one has a single call.
 impl Drop for Lie {
     fn drop(self) {
         let Lie {
@@ -64,7 +64,7 @@ pub struct Start {
     pub state: NodeState,
 }
 
-// Written out, so that what lets go of one calls this, and no more.
+// Written out, so that code that drops one has a single call.
 impl Drop for Start {
     fn drop(self) {
         let Start { node: _, state } = self;

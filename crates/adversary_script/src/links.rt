@@ -6,7 +6,7 @@ use std::alloc::Global;
 use sync_types::NoMemory;
 
 /// Where the lies of each sender stand among all lies, so that those of one are found without the
-/// others. Where there is none, a place is the number of lies.
+/// others. If there is none, a place is the number of lies.
 pub struct Links {
     /// For each node the place of its first lie.
     pub firsts: Vec<usize>,
@@ -14,7 +14,7 @@ pub struct Links {
     pub nexts: Vec<usize>,
 }
 
-// Written out, so that what lets go of one calls this, and no more.
+// Written out, so that code that drops one has a single call.
 impl Drop for Links {
     fn drop(self) {
         let Links { firsts, nexts } = self;
@@ -23,7 +23,7 @@ impl Drop for Links {
     }
 }
 
-/// Links the lies of each sender, where there are so many nodes.
+/// Links the lies of each sender, for so many nodes.
 pub fn link(alloc: Global, nodes: u32, lies: &[Lie]) -> Result<Links, NoMemory>
     requires { All (λ lie. lie.sender < nodes) lies.now }
     ensures { IfOk result (λ links. IsLinked nodes lies.now links.firsts.items links.nexts.items) }

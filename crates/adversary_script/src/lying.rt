@@ -13,7 +13,7 @@ use crate::shifting::{Source, zero_into};
 use state_codec::Packed;
 use sync_types::NodeState;
 
-/// The stream of the noise with which node 0 starts; those of the other nodes stand behind it.
+/// The stream of the noise with which node 0 starts; those of the other nodes stand after it.
 const FIRST_START_STREAM: u64 = 65536;
 
 impl Script {
@@ -32,7 +32,7 @@ impl Script {
             Some(state) => out.copy_from(state),
             None => match self.parts.common {
                 CommonStart::Zero => {
-                    self.shape.tell();
+                    self.shape.facts();
                     zero_into(out);
                 }
                 CommonStart::Noise => {
@@ -72,7 +72,7 @@ impl Script {
         ensures range { InRange (fields_at self.now.shape u) out.new }
         ensures noise { noise.new ≡ noise.old }
     {
-        config.tell();
+        config.facts();
         let _few = config.nodes();
         match self.lie_for(t, u, v) {
             Some(lie) => match &lie.what {

@@ -5,7 +5,7 @@ ghost use Rattle.adversary_script.specs.Noise.{key_in, words_in, noise_bytes, no
 
 use crate::draws::Draw;
 use crate::scripts::Script;
-use crate::stretches::Stretch;
+use crate::stretches::KeystreamBlock;
 use rand_chacha::ChaCha8Rng;
 use rand_core::SeedableRng;
 use std::alloc::Global;
@@ -18,19 +18,19 @@ const NONE: u32 = u32::MAX;
 /// The noise of a script. Each word of it is given by the script's key, a stream and a place.
 ///
 /// Words are made in stretches. It keeps the last one of each pair of a faulty node and a receiver
-/// that was asked for, where it has room for them.
+/// that was asked for, if it has room for them.
 pub struct Noise {
     generator: ChaCha8Rng,
     // Those of pairs, in the order in which they were first asked for.
-    stretches: Vec<Stretch>,
+    stretches: Vec<KeystreamBlock>,
     // Where the stretch of a pair stands among these.
     places: Vec<u32>,
-    // The first pair of each node that is faulty in some era, by id. Its others stand behind it.
+    // The first pair of each node that is faulty in some era, by id. Its others stand after it.
     firsts: Vec<u32>,
     key: [u8; 32],
 }
 
-// Written out, so that what lets go of one calls this, and no more.
+// Written out, so that code that drops one has a single call.
 impl Drop for Noise {
     fn drop(self) {
         let Noise {
@@ -68,7 +68,7 @@ fn generator_of(key: [u8; 32]) -> ChaCha8Rng
 }
 
 /// Gives each of these nodes that has no pairs yet the next ones, one for each receiver. So many
-/// were given; the answer is how many then are.
+/// were given before; the answer is how many are given after.
 fn give_pairs(firsts: &mut [u32], given: u32, faulty: &FaultSet) -> u32 {
     let mut given = given;
     for i in 0..faulty.len() {
@@ -108,8 +108,8 @@ impl Noise {
     }
 
     /// The noise of a script, with room for a stretch for each pair of a node that is faulty in
-    /// some era and a receiver: a round's lies cost the less. It takes all the memory that it ever
-    /// needs, and makes a stretch where its pair is first asked for.
+    /// some era and a receiver: so a round's lies cost less. It takes all the memory that it ever
+    /// needs, and makes a stretch when its pair is first asked for.
     pub fn with_room(alloc: Global, script: &Script) -> Result<Noise, NoMemory>
         ensures { IfOk result (λ noise. noise ≡ script.now.key) }
     {
@@ -139,7 +139,7 @@ impl Noise {
         }
     }
 
-    /// The bytes of a state of noise, and eight more, where they were made.
+    /// The bytes of a state of noise, and eight more, if they were made.
     fn find(&self, draw: &Draw) -> Option<&[u8]>
         ensures size { IfSome result
             (λ bytes. bytes_in (fields_at draw.now.shape.now draw.now.v) + 8 ≤ length bytes.now) }
@@ -156,7 +156,7 @@ impl Noise {
     }
 
     /// Keeps a stretch as that of its pair, if it is one of a pair and there is room.
-    fn keep(&mut self, stretch: Stretch)
+    fn keep(&mut self, stretch: KeystreamBlock)
         requires { stretch.key ≡ self.old }
         ensures { self.new ≡ self.old }
     {
@@ -174,13 +174,13 @@ impl Noise {
     }
 
     /// Makes the words of a stream from the block of a place on.
-    fn make(&mut self, stream: u64, place: u64) -> Stretch
+    fn make(&mut self, stream: u64, place: u64) -> KeystreamBlock
         ensures key { result.key ≡ self.old }
         ensures stream { result.stream ≡ stream }
         ensures place { result.first + place % 16 ≡ place }
         ensures same { self.new ≡ self.old }
     {
-        let stretch = Stretch::at(&mut self.generator, self.key, stream, place);
+        let stretch = KeystreamBlock::at(&mut self.generator, self.key, stream, place);
         self.keep(stretch);
         stretch
     }
@@ -213,7 +213,7 @@ impl Noise {
     }
 
     /// Writes a state of noise, of which it makes the words. A call takes room for these on the
-    /// stack, so this is a function of its own, which `state_into` calls only where it must.
+    /// stack, so this is a function of its own, which `state_into` calls only if it must.
     #[inline(never)]
     #[tactic(auto, unfolding(crate::specs::Noise::noise_state))]
     pub(crate) fn make_state(&mut self, draw: &Draw, out: &mut NodeState)

@@ -7,15 +7,15 @@ use indexmap::IndexMap;
 use std::alloc::Global;
 use sync_types::FaultSet;
 
-/// An era behind the first: from a configuration on these nodes are faulty, and there some nodes
-/// are put into states.
+/// An era after the first: from a configuration on these nodes are faulty, and there some nodes are
+/// put into states.
 pub struct Era {
     pub first: u64,
     pub faulty: FaultSet,
     pub starts: Vec<Start>,
 }
 
-// Written out, so that what lets go of one calls this, and no more.
+// Written out, so that code that drops one has a single call.
 impl Drop for Era {
     fn drop(self) {
         let Era {
@@ -42,7 +42,7 @@ pub struct Parts {
     pub last: u64,
 }
 
-// Written out, so that what lets go of one calls this, and no more.
+// Written out, so that code that drops one has a single call.
 impl Drop for Parts {
     fn drop(self) {
         let Parts {

@@ -4,15 +4,21 @@ ghost use Rattle.construction.specs.Plans.{plan_nodes};
 ghost use Rattle.state_codec.specs.Shapes.{shape_nodes};
 ghost use Rattle.adversary_script.specs.ScriptPart.{IsAnswer, IsAnswerFor, IsFor, IsScriptFor};
 
-use crate::refusals::{ScriptError, ScriptRefusal};
 use crate::script_lines::ScriptLines;
 use crate::scripts::Script;
-use edge_io::read_part;
+use edge_io::{PartError, Refused, read_part};
 use plan_numbers::Plan;
 use plan_reader::first_unskipped;
 use state_codec::StateShape;
 use std::alloc::Global;
 use sync_types::Rule;
+
+/// The line of a script that is refused: its number in the whole input, skipped lines counted, and
+/// the first rule that it fails. If the part lacks its end, it is the line after the last.
+pub type ScriptRefusal = Refused<Rule>;
+
+/// Why a script was not read: its first line that fails, or memory was refused.
+pub type ScriptError = PartError<Rule>;
 
 /// Reads a script for a plan, to the end of the input. `shape` is the shape of the states, which
 /// has as many nodes as the plan: that of the plan's states, or that with registers of a layer
@@ -21,8 +27,8 @@ use sync_types::Rule;
 ///
 /// A script of version 1 has no further eras. `Refused` is the first line that fails, with the
 /// first rule that it fails. A script that lacks its `end` is refused `Form` at the line after the
-/// last, and so is the first line behind `end` that is not skipped. `NoMemory` comes where memory
-/// was refused.
+/// last, and so is the first line after `end` that is not skipped. `NoMemory` comes if memory was
+/// refused.
 pub fn read_script(
     alloc: Global,
     plan: &Plan,
@@ -57,7 +63,7 @@ pub fn read_script_for(
         (λ script. IsScriptFor (shape_nodes shape.now) faults shape.now script) }
     ensures eras { IfOk result (λ script. script.version ≡ 1 → script.eras ≡ []) }
 {
-    shape.tell();
+    shape.facts();
     read_exactly(alloc, faults, shape, &Numbered { bytes, first_line })
 }
 

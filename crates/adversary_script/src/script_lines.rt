@@ -22,7 +22,7 @@ pub struct ScriptLines<'a> {
     draft: Draft<'a>,
 }
 
-// Written out, so that what lets go of one calls this, and no more.
+// Written out, so that code that drops one has a single call.
 impl<'a> Drop for ScriptLines<'a> {
     fn drop(self) {
         let ScriptLines {
@@ -65,8 +65,8 @@ impl<'a> ScriptLines<'a> {
         self.last
     }
 
-    /// Takes a line of a kind that may stand here, by the words behind those that say the kind.
-    /// Where the line is refused, the reader is at its end.
+    /// Takes a line of a kind that may stand here, by the words after those that say the kind. If
+    /// the line is refused, the reader is at its end.
     fn take_kind(&mut self, kind: Kind, words: Words) -> Result<(), TakeError<Rule>>
         requires { may_follow self.old.last kind ≡ true }
         ensures said { Adds (line_step self.old.faults kind self.old.script words.entry)
@@ -86,7 +86,7 @@ impl<'a> ScriptLines<'a> {
         }
     }
 
-    /// Gives the script where the line that was taken is the last of the part.
+    /// Gives the script if the line that was taken is the last of the part.
     fn give(&mut self, kind: Kind) -> Result<Option<Script>, TakeError<Rule>>
         requires { self.old.last ≡ Some kind }
         ensures { Takes (passed self.old kind (Ok self.old.script)) self.new result }

@@ -18,7 +18,7 @@ pub struct Script {
     pub(crate) alloc: Global,
 }
 
-// Written out, so that what lets go of one calls this, and no more.
+// Written out, so that code that drops one has a single call.
 impl Drop for Script {
     fn drop(self) {
         let Script {

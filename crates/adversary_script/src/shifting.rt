@@ -14,7 +14,7 @@ const ZERO: Reg = Reg {
     d: false,
 };
 
-/// A modulus, which is 0 where a node lacks the field.
+/// A modulus, which is 0 if a node lacks the field.
 #[derive(Clone, Copy)]
 struct Modulus {
     value: u64,
@@ -22,7 +22,7 @@ struct Modulus {
 }
 
 impl Modulus {
-    /// The sum of two numbers modulo this, where it is not 0.
+    /// The sum of two numbers modulo this, if it is not 0.
     fn sum(self, a: u64, by: u64) -> u64
         ensures { 1 ≤ self.value → result ≡ (a + by) % self.value }
     {
@@ -47,8 +47,8 @@ impl Modulus {
     }
 }
 
-/// A register whose value is infinite where it is not below the modulus; the zero register where
-/// the modulus is 0.
+/// A register whose value is infinite if it is not below the modulus; the zero register if the
+/// modulus is 0.
 #[tactic(auto, unfolding(crate::specs::Lies::fitted_register))]
 fn fitted_register(modulus: u64, register: Reg) -> Reg
     ensures { result ≡ fitted_register modulus register }
@@ -82,7 +82,7 @@ impl Source<'_> {
             (state_of self.now.config.now.current self.now.w) }
         ensures range { InRange (fields_at self.now.config.now.shape self.now.v) out.new }
     {
-        self.config.tell();
+        self.config.facts();
         let modulus = Modulus {
             value: self.config.shape().base_of(self.v),
         };
@@ -114,7 +114,7 @@ impl Source<'_> {
             (state_of self.now.config.now.current self.now.w) }
         ensures range { InRange (fields_at self.now.config.now.shape self.now.v) out.new }
     {
-        self.config.tell();
+        self.config.facts();
         let x = self.config.x(self.w);
         out.set_x(if x < self.config.shape().base_of(self.v) {
             x

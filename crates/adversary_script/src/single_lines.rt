@@ -3,15 +3,16 @@ ghost use Rattle.std.specs.List.{list_all};
 ghost use Rattle.state_codec.specs.Texts.{is_lower_digit};
 ghost use Rattle.adversary_script.specs.Answers.{Adds};
 ghost use Rattle.adversary_script.specs.Scripts.{IsFormed};
-ghost use Rattle.adversary_script.specs.WordTests.{numbers_in, only};
+ghost use Rattle.adversary_script.specs.WordTests.{only};
+ghost use Rattle.texts.specs.Shapes.{all_numbers};
 ghost use Rattle.adversary_script.specs.Steps.{head_tested, key_of_digits, seed_tested};
 ghost use Rattle.adversary_script.specs.Steps.{rounds_tested, show_tested, line_step};
 
 use crate::drafts::Draft;
 use crate::kinds::Kind;
 use crate::lies::CommonStart;
-use crate::word_tests::{numbers, only};
-use edge_io::{TakeError, Words};
+use crate::word_tests::only;
+use edge_io::{TakeError, Words, all_numbers};
 use hex::FromHex;
 use std::alloc::Global;
 use sync_types::Rule;
@@ -71,9 +72,9 @@ impl<'a> Draft<'a> {
 
     /// Takes the line of the rounds.
     fn take_rounds(&mut self, alloc: Global, words: Words) -> Result<(), TakeError<Rule>>
-        ensures { Adds (rounds_tested self.old (numbers_in words.entry)) self.new result }
+        ensures { Adds (rounds_tested self.old (all_numbers words.entry)) self.new result }
     {
-        let Some(numbers) = numbers(alloc, words)? else {
+        let Some(numbers) = all_numbers(alloc, words)? else {
             return Err(TakeError::Refused(Rule::Form));
         };
         if numbers.len() != 1 {
@@ -91,9 +92,9 @@ impl<'a> Draft<'a> {
 
     /// Takes the line of what is shown.
     fn take_show(&mut self, alloc: Global, words: Words) -> Result<(), TakeError<Rule>>
-        ensures { Adds (show_tested self.old (numbers_in words.entry)) self.new result }
+        ensures { Adds (show_tested self.old (all_numbers words.entry)) self.new result }
     {
-        let Some(numbers) = numbers(alloc, words)? else {
+        let Some(numbers) = all_numbers(alloc, words)? else {
             return Err(TakeError::Refused(Rule::Form));
         };
         if numbers.len() != 2 {
@@ -106,8 +107,8 @@ impl<'a> Draft<'a> {
         Ok(())
     }
 
-    /// Takes a line of a kind, by the words behind those that say the kind. At most `faults` ids
-    /// may be faulty in an era.
+    /// Takes a line of a kind, by the words after those that say the kind. At most `faults` ids may
+    /// be faulty in an era.
     pub fn take_line(
         &mut self,
         kind: Kind,

@@ -20,7 +20,7 @@ fn is_above(starts: &[Start], node: u64) -> bool
 }
 
 impl<'a> Draft<'a> {
-    /// Takes the line of a common start, behind its two words.
+    /// Takes the line of a common start, after its two words.
     pub fn take_common(
         &mut self,
         common: CommonStart,

@@ -16,7 +16,7 @@ const ROOM: usize = 264;
 
 /// Words of a stream from a place on, as bytes: as many as are made at once.
 #[derive(Clone, Copy)]
-pub struct Stretch {
+pub struct KeystreamBlock {
     pub key: [u8; 32],
     pub stream: u64,
     pub first: u64,
@@ -34,9 +34,9 @@ fn set_at(generator: &mut ChaCha8Rng, stream: u64, place: u64)
     generator.set_word_pos(u128::from(place));
 }
 
-impl Stretch {
+impl KeystreamBlock {
     /// The words of a stream from the block of a place on, by a generator of the key.
-    pub fn at(generator: &mut ChaCha8Rng, key: [u8; 32], stream: u64, place: u64) -> Stretch
+    pub fn at(generator: &mut ChaCha8Rng, key: [u8; 32], stream: u64, place: u64) -> KeystreamBlock
         requires { generator.old.key ≡ key_in key }
         ensures key { result.key ≡ key }
         ensures stream { result.stream ≡ stream }
@@ -47,7 +47,7 @@ impl Stretch {
         set_at(generator, stream, first);
         let mut bytes = [0; ROOM];
         fill_bytes_via_u32(generator, &mut bytes[..BYTES]);
-        Stretch {
+        KeystreamBlock {
             key,
             stream,
             first,
@@ -65,7 +65,7 @@ impl Stretch {
         &self.bytes[4 * at..]
     }
 
-    /// So many bytes from a place of a stream on, and eight more, where all these stand here.
+    /// So many bytes from a place of a stream on, and eight more, if all these stand here.
     pub fn find(&self, stream: u64, place: u64, count: usize) -> Option<&[u8]>
         requires { count ≤ 128 }
         ensures size { IfSome result (λ bytes. count + 8 ≤ length bytes.now) }

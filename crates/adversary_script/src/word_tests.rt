@@ -3,33 +3,16 @@ ghost use Rattle.std.specs.List.{list_all};
 ghost use Rattle.std.specs.Option.{option_map};
 ghost use Rattle.adversary_script.specs.LieWords.{who_seen, what_seen};
 ghost use Rattle.adversary_script.specs.WordTests.{is_letter, is_name, are_below, is_rising};
-ghost use Rattle.adversary_script.specs.WordTests.{numbers_in, only, both, who_below, what_below};
+ghost use Rattle.adversary_script.specs.WordTests.{only, both, who_below, what_below};
 ghost use Rattle.adversary_script.specs.WordTests.{is_crossed};
-ghost use Rattle.adversary_script.specs.Answers.{GivesSeen};
 
 use crate::lie_words::{WhatWords, WhoWords};
-use edge_io::{TakeError, Words, number};
-use std::alloc::Global;
-use sync_types::Rule;
+use edge_io::Words;
 
 /// The most letters that a name may have.
 const LONGEST_NAME: usize = 16;
 
-/// The numbers of the words, or none where one of them is no number.
-pub fn numbers(alloc: Global, words: Words) -> Result<Option<Vec<u64>>, TakeError<Rule>>
-    ensures { GivesSeen (λ found. found.items) (numbers_in words.entry) result }
-{
-    let mut numbers = Vec::new(alloc);
-    for word in words {
-        match number(word) {
-            Some(value) => numbers.push(value)?,
-            None => return Ok(None),
-        }
-    }
-    Ok(Some(numbers))
-}
-
-/// The one word that is left, where there is just one.
+/// The one word that is left, if there is just one.
 pub fn only<'a>(words: &mut Words<'a>) -> Option<&'a [u8]>
     ensures { option_map (λ word. word.now) result ≡ only words.old }
 {
@@ -40,7 +23,7 @@ pub fn only<'a>(words: &mut Words<'a>) -> Option<&'a [u8]>
     }
 }
 
-/// The two words that are left, where there are just two.
+/// The two words that are left, if there are just two.
 pub fn both<'a>(words: &mut Words<'a>) -> Option<(&'a [u8], &'a [u8])>
     ensures { option_map (λ found. (found.0.now, found.1.now)) result ≡ both words.old }
 {

@@ -1,7 +1,7 @@
 -- How a command ends, by what it wrote.
 use Rattle.std.proofs.Common.{◌≡◌, ℕ, List, Result, Ok, Err, refl, sym, subst}
 use Rattle.std.specs.Prelude.{MatchResult}
-use Rattle.texts.specs.Growth.{Told, Wrote, Cut}
+use Rattle.texts.specs.Growth.{SinkState, Wrote, Cut}
 use Rattle.sync_types.specs.declared.status.Status.{Status}
 use Rattle.sync_types.specs.declared.status.Status.TheVariants as status
 use Rattle.outcomes.specs.declared.refusals.Refusal.{Refusal}
@@ -10,7 +10,7 @@ use Rattle.outcomes.specs.Refusals.{refusal_line, refusal_status}
 use Rattle.outcomes.specs.Outcomes.{outcome_of}
 use Rattle.answers.specs.Ends.{Ends}
 
-module _ {K : Type 0} (told : K → Told) where
+module _ {K : Type 0} (told : K → SinkState) where
   -- what follows of each way to end follows of the status
   pub ends_by : (P : Status → Type 0) (answer : Result (List ℕ) Refusal) (s t : K)
       → (Cut (outcome_of answer).text (told s) (told t) → P status.WriteFault)
@@ -40,14 +40,14 @@ module _ {K : Type 0} (told : K → Told) where
   text_ends (Ok text) s t wrote = (refl, wrote)
   text_ends (Err refusal) s t none = absurd none
 
-  -- or a front of it
+  -- or a prefix of it
   pub text_cut : (answer : Result (List ℕ) Refusal) (s t : K)
       → MatchResult answer (λ text. Cut text (told s) (told t)) (λ refusal. ⊥)
       → Ends told status.WriteFault answer s t
   text_cut (Ok text) s t cut = cut
   text_cut (Err refusal) s t none = absurd none
 
-  -- the line of a refusal was written, behind a reading that did not touch the sink
+  -- the line of a refusal was written, after a reading that did not touch the sink
   pub refusal_ends : (r : Refusal) (answer : Result (List ℕ) Refusal) (s m t : K)
       → (answer ≡ Err r) × (m ≡ s) → Wrote (refusal_line r) (told m) (told t)
       → Ends told (refusal_status r) answer s t
@@ -78,7 +78,7 @@ module _ {K : Type 0} (told : K → Told) where
             wrote,
       )
 
-  -- or a front of it
+  -- or a prefix of it
   pub refusal_cut : (r : Refusal) (answer : Result (List ℕ) Refusal) (s m t : K)
       → (answer ≡ Err r) × (m ≡ s) → Cut (refusal_line r) (told m) (told t)
       → Ends told status.WriteFault answer s t

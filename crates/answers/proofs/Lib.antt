@@ -1,10 +1,6 @@
 pub mod Unwritten
 pub mod ReadLayers
-pub mod ReadSlots
+pub mod LayeredPlays
 pub mod ReadScripted
-pub mod RefusedScripts
-pub mod ReadConsensus
-pub mod ReadFire
-pub mod ReadLog
 pub mod Explained
 pub mod Ended

@@ -1,6 +1,6 @@
--- How a command ends that has its input.
+-- How a command that has its input ends.
 use Rattle.std.specs.Prelude.{◌≡◌, ℕ, List, Result, Ok, Err, MatchResult}
-use Rattle.texts.specs.Growth.{Told, Wrote, Cut}
+use Rattle.texts.specs.Growth.{SinkState, Wrote, Cut}
 use Rattle.sync_types.specs.declared.status.Status.{Status}
 use Rattle.sync_types.specs.declared.status.Status.TheVariants as status
 use Rattle.outcomes.specs.declared.refusals.Refusal.{Refusal}
@@ -9,9 +9,9 @@ use Rattle.answers.specs.declared.errors.Unanswered.{Unanswered}
 use Rattle.answers.specs.declared.errors.Unanswered.TheVariants as end
 
 -- a sink, which tells what it took
-module _ {K : Type 0} (told : K → Told) where
+module _ {K : Type 0} (told : K → SinkState) where
   -- The text of the answer was written; or there is none, since the input is refused; or memory was
-  -- refused, before the sink was touched; or a front of the text was taken.
+  -- refused, before the sink was touched; or a prefix of the text was taken.
   abbrev pub Answers : {T : Type 0} → Result T Unanswered → (answer : Result (List ℕ) Refusal)
       → (old new : K) → Type 0
   Answers (Ok value) answer old new =
@@ -21,7 +21,7 @@ module _ {K : Type 0} (told : K → Told) where
   Answers (Err (end.Refused refusal)) answer old new = (answer ≡ Err refusal) × (new ≡ old)
   Answers (Err end.NoMemory) answer old new = new ≡ old
 
-  -- the same of the status, where the line of a refusal is written too
+  -- the same of the status; the line of a refusal is written too
   abbrev pub Ends : Status → (answer : Result (List ℕ) Refusal) → (old new : K) → Type 0
   Ends status.WriteFault answer old new = Cut (outcome_of answer).text (told old) (told new)
   Ends status.NoMemory answer old new = new ≡ old

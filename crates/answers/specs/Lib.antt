@@ -1,8 +1,5 @@
 pub mod Readings
 pub mod Ends
 pub mod LayeredRuns
+pub mod LayeredReads
 pub mod ScriptedRuns
-pub mod SlotsRuns
-pub mod ConsensusRuns
-pub mod FireRuns
-pub mod LogRuns

@@ -1,13 +1,13 @@
-ghost use Rattle.std.specs.Prelude.{◌≤◌, ◌^◌, length};
 ghost use Rattle.outcomes.specs.Answers.{answer_of};
 ghost use Rattle.answers.specs.Ends.{Ends, Answers};
 
 use crate::errors::Unanswered;
-use crate::words::{
-    consensus, explain, find_least, fire, log, plan, record, run, slots, table, upgrade,
-};
+use crate::words::{explain, find_least, plan, play_layer, record, run, slots, table, upgrade};
+use consensus_layer::Agreement;
 use edge_io::{Sink, WriteFault};
+use firing::Firing;
 use outcomes::{Batch, put_refusal};
+use replicated_log::Replica;
 use std::alloc::Global;
 use sync_types::Status;
 
@@ -18,7 +18,6 @@ fn put_answer<K: Sink>(
     input: &[u8],
     sink: &mut K,
 ) -> Result<(), Unanswered>
-    requires { length input.now ≤ 2 ^ 20 }
     ensures { Answers K.told result (answer_of batch input.now) sink.old sink.new }
 {
     match batch {
@@ -30,19 +29,17 @@ fn put_answer<K: Sink>(
         Batch::Table => table(alloc, input, sink),
         Batch::Find => find_least(alloc, input, sink),
         Batch::Slots => slots(alloc, input, sink),
-        Batch::Consensus => consensus(alloc, input, sink),
-        Batch::Fire => fire(alloc, input, sink),
-        Batch::Log => log(alloc, input, sink),
+        Batch::Consensus => play_layer::<Agreement, K>(alloc, input, sink),
+        Batch::Fire => play_layer::<Firing, K>(alloc, input, sink),
+        Batch::Log => play_layer::<Replica, K>(alloc, input, sink),
     }
 }
 
-/// Answers an input of at most 2^20 bytes: its text is written, or the line of its refusal.
+/// Answers an input: its text is written, or the line of its refusal.
 ///
-/// `WriteFault` comes where the sink counted one; a front of that was then taken. `NoMemory` comes
-/// where memory was refused, before the sink is touched. Any other status is that of the
-/// answer.
+/// `WriteFault` comes if the sink counted one; a prefix of that was then taken. `NoMemory` comes if
+/// memory was refused, before the sink is touched. Any other status is that of the answer.
 pub fn answer<K: Sink>(alloc: Global, batch: Batch, input: &[u8], sink: &mut K) -> Status
-    requires { length input.now ≤ 2 ^ 20 }
     ensures { Ends K.told result (answer_of batch input.now) sink.old sink.new }
 {
     match put_answer(alloc, batch, input, sink) {

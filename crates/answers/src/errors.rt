@@ -1,15 +1,9 @@
 ghost use Rattle.std.specs.Prelude.{◌≡◌};
-ghost use Rattle.answers.specs.Readings.{part_refused};
+ghost use Rattle.answers.specs.Readings.{part_error};
 
-use adversary_script::ScriptError;
-use consensus_layer::AgreeError;
-use edge_io::WriteFault;
-use firing::FireError;
+use edge_io::{PartError, WriteFault};
 use outcomes::Refusal;
-use plan_finder::FindError;
 use plan_reader::{PlanError, TableError};
-use replicated_log::LogError;
-use slot_table::SlotError;
 use sync_types::{NoMemory, Part, Rule};
 use thiserror::Error;
 
@@ -79,87 +73,16 @@ impl From<TableError> for Unanswered {
     }
 }
 
-/// The refusal of a line of a part.
-fn part_refused(part: Part, line: u64, rule: Rule) -> Unanswered
-    ensures { result ≡ part_refused part line rule }
+/// The error of a part that was not read, by the part's name.
+pub(crate) fn unread(part: Part, error: PartError<Rule>) -> Unanswered
+    ensures { result ≡ part_error part error }
 {
-    Unanswered::Refused(Refusal::Part { part, line, rule })
-}
-
-impl From<ScriptError> for Unanswered {
-    ghost use Rattle.answers.specs.Readings.{script_error};
-
-    ghost from_gives = { λ error e. e ≡ script_error error };
-
-    fn from(error: ScriptError) -> Self {
-        match error {
-            ScriptError::Refused(refused) => part_refused(Part::Script, refused.line, refused.rule),
-            ScriptError::NoMemory => Unanswered::NoMemory,
-        }
-    }
-}
-
-impl From<SlotError> for Unanswered {
-    ghost use Rattle.answers.specs.Readings.{slots_error};
-
-    ghost from_gives = { λ error e. e ≡ slots_error error };
-
-    fn from(error: SlotError) -> Self {
-        match error {
-            SlotError::Refused(refused) => part_refused(Part::Slots, refused.line, refused.rule),
-            SlotError::NoMemory => Unanswered::NoMemory,
-        }
-    }
-}
-
-impl From<AgreeError> for Unanswered {
-    ghost use Rattle.answers.specs.Readings.{agree_error};
-
-    ghost from_gives = { λ error e. e ≡ agree_error error };
-
-    fn from(error: AgreeError) -> Self {
-        match error {
-            AgreeError::Refused(refused) => part_refused(Part::Agree, refused.line, refused.rule),
-            AgreeError::NoMemory => Unanswered::NoMemory,
-        }
-    }
-}
-
-impl From<FireError> for Unanswered {
-    ghost use Rattle.answers.specs.Readings.{firing_error};
-
-    ghost from_gives = { λ error e. e ≡ firing_error error };
-
-    fn from(error: FireError) -> Self {
-        match error {
-            FireError::Refused(refused) => part_refused(Part::Fire, refused.line, refused.rule),
-            FireError::NoMemory => Unanswered::NoMemory,
-        }
-    }
-}
-
-impl From<LogError> for Unanswered {
-    ghost use Rattle.answers.specs.Readings.{logging_error};
-
-    ghost from_gives = { λ error e. e ≡ logging_error error };
-
-    fn from(error: LogError) -> Self {
-        match error {
-            LogError::Refused(refused) => part_refused(Part::Log, refused.line, refused.rule),
-            LogError::NoMemory => Unanswered::NoMemory,
-        }
-    }
-}
-
-impl From<FindError> for Unanswered {
-    ghost use Rattle.answers.specs.Readings.{wants_error};
-
-    ghost from_gives = { λ error e. e ≡ wants_error error };
-
-    fn from(error: FindError) -> Self {
-        match error {
-            FindError::Refused(refused) => part_refused(Part::Find, refused.line, refused.rule),
-            FindError::NoMemory => Unanswered::NoMemory,
-        }
+    match error {
+        PartError::Refused(refused) => Unanswered::Refused(Refusal::Part {
+            part,
+            line: refused.line,
+            rule: refused.rule,
+        }),
+        PartError::NoMemory => Unanswered::NoMemory,
     }
 }

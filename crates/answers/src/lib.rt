@@ -6,14 +6,11 @@
 #![tactic(auto)]
 
 mod answering;
-mod consensus;
 mod errors;
 mod explaining;
-mod fire;
-mod log;
+mod layered;
 mod runners;
 mod scripted;
-mod slots;
 mod words;
 
 pub use answering::answer;

@@ -1,27 +1,33 @@
 //! What each command writes of an input: the text of what it is read as.
 
-ghost use Rattle.std.specs.Prelude.{◌≤◌, ◌^◌, length};
+ghost use Rattle.std.specs.Prelude.{◌≡◌, MatchResult};
+ghost use Rattle.outcomes.specs.Inputs.{plan_alone};
 ghost use Rattle.outcomes.specs.declared.commands.Batch.TheVariants as batch;
 ghost use Rattle.outcomes.specs.Answers.{answer_of};
 ghost use Rattle.answers.specs.Ends.{Answers};
+ghost use Rattle.answers.specs.LayeredReads.{layer_answer};
+ghost use Rattle.answers.specs.Readings.{Refuses};
 
-use crate::consensus::read_agreed;
-use crate::errors::Unanswered;
+use crate::errors::{Unanswered, unread};
 use crate::explaining::put_explained;
-use crate::fire::read_firing;
-use crate::log::read_logging;
+use crate::layered::{ToPlay, read_layered};
+use crate::runners::runner_of;
 use crate::scripted::read_scripted;
-use crate::slots::read_slotted;
+use counter_core::NoOverlay;
 use edge_io::{Sink, put_all};
+use layer_laws::CounterNumbers;
+use layer_parts::LayerPart;
 use plan_finder::{find, read_find, write_found};
+use plan_numbers::Plan;
 use plan_reader::{read_table, read_whole_plan, write_plan, write_table};
 use run_checker::write_run;
-use run_lines::{Rows, put_counting, put_played};
+use run_lines::{HoldLines, Rows, put_counting, put_played};
+use slot_table::SlotTable;
 use std::alloc::Global;
+use sync_types::Part;
 
 /// The run of a plan and a script.
 pub fn run<K: Sink>(alloc: Global, input: &[u8], sink: &mut K) -> Result<(), Unanswered>
-    requires { length input.now ≤ 2 ^ 20 }
     ensures { Answers K.told result (answer_of batch.Run input.now) sink.old sink.new }
 {
     let (_, mut runner) = read_scripted(alloc, input)?;
@@ -31,7 +37,6 @@ pub fn run<K: Sink>(alloc: Global, input: &[u8], sink: &mut K) -> Result<(), Una
 
 /// The certificate of that run.
 pub fn record<K: Sink>(alloc: Global, input: &[u8], sink: &mut K) -> Result<(), Unanswered>
-    requires { length input.now ≤ 2 ^ 20 }
     ensures { Answers K.told result (answer_of batch.Record input.now) sink.old sink.new }
 {
     let (plan, mut runner) = read_scripted(alloc, input)?;
@@ -41,7 +46,6 @@ pub fn record<K: Sink>(alloc: Global, input: &[u8], sink: &mut K) -> Result<(), 
 
 /// Why its last era locks.
 pub fn explain<K: Sink>(alloc: Global, input: &[u8], sink: &mut K) -> Result<(), Unanswered>
-    requires { length input.now ≤ 2 ^ 20 }
     ensures { Answers K.told result (answer_of batch.Explain input.now) sink.old sink.new }
 {
     let (plan, mut runner) = read_scripted(alloc, input)?;
@@ -49,11 +53,23 @@ pub fn explain<K: Sink>(alloc: Global, input: &[u8], sink: &mut K) -> Result<(),
     Ok(())
 }
 
+/// The plan of an input of nothing else.
+fn read_plan_alone(alloc: Global, input: &[u8]) -> Result<Plan, Unanswered>
+    ensures { MatchResult result
+        (λ plan. plan_alone input.now ≡ Ok plan)
+        (λ error. Refuses error (plan_alone input.now)) }
+{
+    match read_whole_plan(alloc, input) {
+        Ok(plan) => Ok(plan),
+        Err(error) => Err(Unanswered::from(error)),
+    }
+}
+
 /// The table of a plan.
 pub fn plan<K: Sink>(alloc: Global, input: &[u8], sink: &mut K) -> Result<(), Unanswered>
     ensures { Answers K.told result (answer_of batch.Plan input.now) sink.old sink.new }
 {
-    let plan = read_whole_plan(alloc, input)?;
+    let plan = read_plan_alone(alloc, input)?;
     write_table(&plan, sink)?;
     Ok(())
 }
@@ -62,7 +78,7 @@ pub fn plan<K: Sink>(alloc: Global, input: &[u8], sink: &mut K) -> Result<(), Un
 pub fn upgrade<K: Sink>(alloc: Global, input: &[u8], sink: &mut K) -> Result<(), Unanswered>
     ensures { Answers K.told result (answer_of batch.Upgrade input.now) sink.old sink.new }
 {
-    let plan = read_whole_plan(alloc, input)?;
+    let plan = read_plan_alone(alloc, input)?;
     write_plan(&plan, 2, sink)?;
     Ok(())
 }
@@ -80,7 +96,10 @@ pub fn table<K: Sink>(alloc: Global, input: &[u8], sink: &mut K) -> Result<(), U
 pub fn find_least<K: Sink>(alloc: Global, input: &[u8], sink: &mut K) -> Result<(), Unanswered>
     ensures { Answers K.told result (answer_of batch.Find input.now) sink.old sink.new }
 {
-    let want = read_find(input)?;
+    let want = match read_find(input) {
+        Ok(want) => want,
+        Err(error) => return Err(unread(Part::Find, error)),
+    };
     let found = find(alloc, want.faults, want.modulus, want.most)?;
     write_found(&found, sink)?;
     Ok(())
@@ -88,40 +107,36 @@ pub fn find_least<K: Sink>(alloc: Global, input: &[u8], sink: &mut K) -> Result<
 
 /// Who holds by a slot table, while a script is played.
 pub fn slots<K: Sink>(alloc: Global, input: &[u8], sink: &mut K) -> Result<(), Unanswered>
-    requires { length input.now ≤ 2 ^ 20 }
     ensures { Answers K.told result (answer_of batch.Slots input.now) sink.old sink.new }
 {
-    let (lines, mut runner) = read_slotted(alloc, input)?;
-    put_counting(sink, &mut runner, &lines)?;
+    let (table, read) = read_layered::<SlotTable>(alloc, input)?;
+    let ToPlay {
+        plan,
+        shape,
+        script,
+    } = read;
+    let mut runner = runner_of(alloc, &plan, shape, script, NoOverlay)?;
+    put_counting(sink, &mut runner, &HoldLines { table })?;
     Ok(())
 }
 
-/// The decisions of each slot.
-pub fn consensus<K: Sink>(alloc: Global, input: &[u8], sink: &mut K) -> Result<(), Unanswered>
-    requires { length input.now ≤ 2 ^ 20 }
-    ensures { Answers K.told result (answer_of batch.Consensus input.now) sink.old sink.new }
+/// What comes of the layer that a part says, while a script is played.
+pub fn play_layer<P: LayerPart, K: Sink>(
+    alloc: Global,
+    input: &[u8],
+    sink: &mut K,
+) -> Result<(), Unanswered>
+    ensures { Answers K.told result (layer_answer P.NAME P.said_in P.registers P.words input.now)
+        sink.old sink.new }
 {
-    let (lines, mut runner) = read_agreed(alloc, input)?;
-    put_played(sink, &mut runner, &lines)?;
-    Ok(())
-}
-
-/// Which nodes fire at the end of each slot.
-pub fn fire<K: Sink>(alloc: Global, input: &[u8], sink: &mut K) -> Result<(), Unanswered>
-    requires { length input.now ≤ 2 ^ 20 }
-    ensures { Answers K.told result (answer_of batch.Fire input.now) sink.old sink.new }
-{
-    let (lines, mut runner) = read_firing(alloc, input)?;
-    put_played(sink, &mut runner, &lines)?;
-    Ok(())
-}
-
-/// The entry that each slot puts.
-pub fn log<K: Sink>(alloc: Global, input: &[u8], sink: &mut K) -> Result<(), Unanswered>
-    requires { length input.now ≤ 2 ^ 20 }
-    ensures { Answers K.told result (answer_of batch.Log input.now) sink.old sink.new }
-{
-    let (lines, mut runner) = read_logging(alloc, input)?;
+    let (layer, read) = read_layered::<P>(alloc, input)?;
+    let ToPlay {
+        plan,
+        shape,
+        script,
+    } = read;
+    let lines = P::lines(&CounterNumbers::of(&plan));
+    let mut runner = runner_of(alloc, &plan, shape, script, layer)?;
     put_played(sink, &mut runner, &lines)?;
     Ok(())
 }

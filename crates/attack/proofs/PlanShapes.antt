@@ -7,8 +7,8 @@ use Rattle.machine_runner.specs.Laws.{IsShapeOf}
 use Rattle.pulse_plan.specs.Plans.{PulseNumbers, IsAccepted}
 use Rattle.pulse_plan.specs.Laws.{machine_in}
 use Rattle.pulse_plan.proofs.Sound.{nodes_are}
-use Rattle.pulse_nodes.specs.PulseShapes as pulses
-use Rattle.pulse_nodes.proofs.Shaped as shaped
+use Rattle.pulse_texts.specs.PulseShapes as pulses
+use Rattle.pulse_texts.proofs.Shaped as shaped
 
 pub boosting_fits : (plan : Plan) (shape : Shape) → IsShape shape → shape ≡ shape_of plan
     → shape.depth ≡ plan_depth plan → shape_nodes shape ≡ plan_nodes plan

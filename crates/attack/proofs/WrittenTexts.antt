@@ -1,4 +1,4 @@
--- What is written is read as the plan, and as the script behind it.
+-- What is written is read as the plan, and as the script after it.
 use Rattle.std.proofs.Common.{◌≡◌, ℕ, ◌+◌, List, ◌++◌, Ok, refl, sym, ap, ◌∙◌, arith}
 use Rattle.std.proofs.lemmas.List.FromFn.{length-map-range_with_len}
 use Rattle.texts.specs.Lines.{lines_of}
@@ -14,10 +14,10 @@ use Rattle.pulse_plan.specs.Halvings.{halving_faults}
 use Rattle.pulse_plan.proofs.Numbers.{faults_of_halving}
 use Rattle.pulse_plan.specs.Plans.{PulseNumbers, tree_of, IsAccepted as IsAcceptedPulses}
 use Rattle.pulse_plan.specs.Laws.{machine_in}
-use Rattle.pulse_nodes.specs.PulseShapes as pulses
-use Rattle.pulse_nodes.proofs.Shaped as shaped
+use Rattle.pulse_texts.specs.PulseShapes as pulses
+use Rattle.pulse_texts.proofs.Shaped as shaped
 use Rattle.pulse_texts.specs.PulsesTexts.{PulsesTextIsRead}
-use Rattle.attacks.specs.Tried.{script_in}
+use Rattle.attack.specs.Tried.{script_in}
 use Rattle.attack.specs.declared.plans.AnyPlan.TheVariants as plan
 use Rattle.attack.specs.PlanTexts.{text_of}
 use Rattle.attack.specs.ReadBack.{ReadsAs, WrittenIsRead}

@@ -1,14 +1,16 @@
 -- The attack that is found on a plan.
 use Rattle.std.specs.Prelude.{◌≡◌, ℕ, List, Option, Some, None}
-use Rattle.attacks.specs.Attacks.{Attack}
-use Rattle.attacks.specs.AttackTexts.{attack_text}
-use Rattle.attacks.specs.Drawings.{drawing_for, made_by}
-use Rattle.attacks.specs.Searches.{searched}
-use Rattle.attacks.specs.SearchLaws.{IsBest, IsBestOf}
-use Rattle.attacks.specs.declared.kinds.Kind.{Kind}
-use Rattle.attacks.specs.declared.searching.Best.{Best}
-use Rattle.attack.specs.declared.errors.AttackError.{AttackError}
-use Rattle.attack.specs.declared.errors.AttackError.TheVariants as error
+use Rattle.program_words.specs.declared.errors.ProgramError.{ProgramError}
+use Rattle.program_words.specs.declared.errors.ProgramError.TheVariants as error
+use Rattle.attack.specs.Attacks.{Attack}
+use Rattle.attack.specs.AttackTexts.{attack_text}
+use Rattle.attack.specs.Drawings.{drawing_for, made_by}
+use Rattle.attack.specs.Searches.{searched}
+use Rattle.attack.specs.SearchLaws.{IsBest, IsBestOf}
+use Rattle.attack.specs.declared.kinds.Kind.{Kind}
+use Rattle.attack.specs.declared.searching.Best.{Best}
+use Rattle.attack.specs.declared.reasons.AttackReason.{AttackReason}
+use Rattle.attack.specs.declared.reasons.AttackReason.TheVariants as reason
 use Rattle.attack.specs.declared.finding.Found.{Found}
 use Rattle.attack.specs.declared.plans.AnyPlan.{AnyPlan}
 use Rattle.attack.specs.declared.requests.Numbers.{Numbers}
@@ -42,7 +44,7 @@ module _ (plan : AnyPlan) (numbers : Numbers) (kinds : List Kind) where
         numbers.runs None
 
   -- why none is found
-  abbrev pub FailsToFind : AttackError → Type 0
-  FailsToFind error.NoScript = FindsNone
+  abbrev pub FailsToFind : ProgramError AttackReason → Type 0
+  FailsToFind (error.Refused reason.NoScript) = FindsNone
   FailsToFind error.NoMemory = Unit {0}
   FailsToFind other = ⊥

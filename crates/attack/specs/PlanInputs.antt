@@ -13,15 +13,22 @@ use Rattle.pulse_texts.specs.declared.premises.LinePremise.{LinePremise}
 use Rattle.pulse_texts.specs.PulsesPart.{whole_pulses_of}
 use Rattle.attack.specs.declared.plans.AnyPlan.{AnyPlan}
 use Rattle.attack.specs.declared.plans.AnyPlan.TheVariants as plan
-use Rattle.attack.specs.declared.errors.AttackError.{AttackError}
-use Rattle.attack.specs.Errors.{refused_at, pulses_refused_at}
+use Rattle.attack.specs.declared.reasons.AttackReason.{AttackReason}
+use Rattle.attack.specs.declared.reasons.AttackReason.TheVariants as reason
+
+-- the refusal of a line of a plan of levels over blocks, and of one of a pulse plan
+abbrev pub refused_at : At Premise → AttackReason
+refused_at at = reason.Levels (record { line = at.line; premise = at.rule })
+
+abbrev pub pulses_refused_at : At LinePremise → AttackReason
+pulses_refused_at at = reason.Pulses (record { line = at.line; premise = at.rule })
 
 -- a plan of levels over blocks, or its first line that fails
-abbrev pub boosting_or_refused : Result Plan (At Premise) → Result AnyPlan AttackError
+abbrev pub boosting_or_refused : Result Plan (At Premise) → Result AnyPlan AttackReason
 boosting_or_refused (Ok own) = Ok (plan.Boosting own)
 boosting_or_refused (Err at) = Err (refused_at at)
 
-abbrev pub boosting_answer : (text : List ℕ) → Result AnyPlan AttackError
+abbrev pub boosting_answer : (text : List ℕ) → Result AnyPlan AttackReason
 boosting_answer text = boosting_or_refused (whole_plan_of text)
 
 -- the line is the first one that counts, or no line does
@@ -29,13 +36,13 @@ abbrev pub is_first : Option ℕ → (line : ℕ) → Bool
 is_first None line = true
 is_first (Some first) line = first == line
 
--- by what a text is as a pulse plan: where its first line that counts is not that of a pulse plan,
--- it is read as one of levels over blocks
+-- by what a text is as a pulse plan: if its first line that counts is not that of a pulse plan, it
+-- is read as one of levels over blocks
 abbrev pub plan_by : (first : Option ℕ) → (text : List ℕ)
-    → Result PulseNumbers (At LinePremise) → Result AnyPlan AttackError
+    → Result PulseNumbers (At LinePremise) → Result AnyPlan AttackReason
 plan_by first text (Ok own) = Ok (plan.Pulses own)
 plan_by first text (Err at) =
     if is_first first at.line then boosting_answer text else Err (pulses_refused_at at)
 
-abbrev pub plan_answer : (text : List ℕ) → Result AnyPlan AttackError
+abbrev pub plan_answer : (text : List ℕ) → Result AnyPlan AttackReason
 plan_answer text = plan_by (first_unskipped 1 (lines_of text)) text (whole_pulses_of text)

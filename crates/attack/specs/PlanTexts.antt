@@ -7,7 +7,7 @@ use Rattle.machines.specs.Machines.{Machine}
 use Rattle.plan_reader.specs.PlanTexts.{plan_text}
 use Rattle.plan_numbers.specs.Premises as boosting_premises
 use Rattle.pulse_plan.specs.Plans as pulses_premises
-use Rattle.pulse_nodes.specs.PulseShapes as pulses
+use Rattle.pulse_texts.specs.PulseShapes as pulses
 use Rattle.pulse_texts.specs.PulsesTexts.{pulses_text}
 use Rattle.node_calls.specs.Machines.{machine_of}
 use Rattle.node_calls.specs.declared.any_machines.AnyMachine.{AnyMachine}

@@ -1,4 +1,4 @@
--- What is written is read as the plan, and as the script behind it.
+-- What is written is read as the plan, and as the script after it.
 use Rattle.std.specs.Prelude.{◌≡◌, ℕ, ◌+◌, List, ◌++◌, Result, Ok}
 use Rattle.texts.specs.Parts.{At, Found}
 use Rattle.sync_types.specs.declared.answers.Rule.{Rule}
@@ -7,14 +7,14 @@ use Rattle.plan_reader.specs.PlanPart.{plan_of}
 use Rattle.state_codec.specs.Shapes as boosting
 use Rattle.adversary_script.specs.Scripts.{Script}
 use Rattle.adversary_script.specs.ScriptPart.{script_for}
-use Rattle.pulse_nodes.specs.PulseShapes as pulses
+use Rattle.pulse_texts.specs.PulseShapes as pulses
 use Rattle.pulse_texts.specs.PulsesPart.{pulses_of}
-use Rattle.attacks.specs.Tried.{script_in}
+use Rattle.attack.specs.Tried.{script_in}
 use Rattle.attack.specs.declared.plans.AnyPlan.{AnyPlan}
 use Rattle.attack.specs.declared.plans.AnyPlan.TheVariants as plan
 use Rattle.attack.specs.PlanTexts.{IsAcceptedPlan, machine_in, shape_in, text_of, first_line_of}
 
--- The part at the front of a text is a plan, and the lines behind it are the script, numbered on
+-- The part at the beginning of a text is a plan, and the lines after it are the script, numbered on
 -- from those of the plan.
 pub record IsReadAs {P R : Type 0} (front : Result (Found P) (At R))
     (scripted : (number : ℕ) → List (List ℕ) → Result Script (At Rule)) (own : P) (script : Script)
@@ -32,7 +32,7 @@ ReadsAs text (plan.Boosting own) script =
 ReadsAs text (plan.Pulses own) script =
     IsReadAs (pulses_of text) (script_for own.nodes own.faults (pulses.shape_of own)) own script
 
--- The text of an accepted plan, with that of a script for its machine behind it, is read as these.
+-- The text of an accepted plan, with that of a script for its machine after it, is read as these.
 abbrev pub WrittenIsRead : Type 0
 WrittenIsRead = (any : AnyPlan) → IsAcceptedPlan any → (text : List ℕ) (script : Script)
     → script_in (machine_in any) (shape_in any) (first_line_of any) text ≡ Ok script

@@ -2,21 +2,19 @@
 
 ghost use Rattle.std.specs.Prelude.{◌≡◌, ◌++◌, map, string_bytes, IsErrOf};
 ghost use Rattle.texts.specs.Growth.{Puts};
-ghost use Rattle.attack.specs.Conduct.{Attacks, Does};
+ghost use Rattle.attack.specs.Conduct.{Attacks, AttacksInput};
 ghost use Rattle.attack.specs.PlanTexts.{text_of};
 
-use crate::errors::AttackError;
 use crate::finding::{Found, find};
 use crate::plans::AnyPlan;
 use crate::reading::read_any_plan;
+use crate::reasons::AttackError;
 use crate::requests::{Numbers, named_kinds};
 use edge_io::{Sink, Source, WriteFault, put_all, read_all};
+use program_words::{LONGEST_INPUT, ProgramError};
 use std::alloc::Global;
 
-/// How many bytes an input may have.
-const LONGEST_INPUT: usize = 1 << 20;
-
-/// Writes the text of a plan, and a text behind it.
+/// Writes the text of a plan, and a text after it.
 fn write_both<K: Sink>(sink: &mut K, plan: &AnyPlan, text: &[u8]) -> Result<(), WriteFault>
     ensures { Puts result (text_of plan.now ++ text.now) (K.told sink.old) (K.told sink.new) }
 {
@@ -46,11 +44,11 @@ fn attack_text<K: Sink>(
 /// writes the plan's text and that of the attack which locks latest. The answer is what is said of
 /// the attack.
 ///
-/// The whole source is read first, at most 2^20 bytes. `PlanRefused` and `PulsesRefused` come
-/// exactly where it is no plan, and `NoScript` where no attack that was tried is a script for it;
-/// `TooLong` only where the byte after the limit was there. `ReadFault` and `WriteFault` come only
-/// where the source, before its end, or the sink counted a fault, and `NoMemory` where memory was
-/// refused. Nothing was written then, but at `WriteFault` a front of the text. `Usage` never comes.
+/// The whole source is read first, at most 2^20 bytes. `Levels` and `Pulses` come exactly if it is
+/// no plan, and `NoScript` if no attack that was tried is a script for it; `TooLong` only if the
+/// byte after the limit was there. `ReadFault` and `WriteFault` come only if the source, before its
+/// end, or the sink counted a fault, and `NoMemory` if memory was refused. Nothing was written
+/// then, but at `WriteFault` a prefix of the text. `Usage` never comes.
 pub fn attack_input<S: Source, K: Sink>(
     alloc: Global,
     numbers: Numbers,
@@ -58,11 +56,11 @@ pub fn attack_input<S: Source, K: Sink>(
     source: &mut S,
     sink: &mut K,
 ) -> Result<Found, AttackError>
-    ensures does { Does result numbers (map string_bytes words.now)
+    ensures attacks { AttacksInput result numbers (map string_bytes words.now)
         (S.left source.old) (S.left source.new) (S.faults source.old) (S.faults source.new)
         (K.told sink.old) (K.told sink.new) }
     // At `ReadFault` the end of the source was not met.
-    ensures unmet { IsErrOf result AttackError.ReadFault → S.met source.new ≡ S.met source.old }
+    ensures unmet { IsErrOf result ProgramError.ReadFault → S.met source.new ≡ S.met source.old }
 {
     let input = read_all(alloc, source, LONGEST_INPUT)?;
     attack_text(alloc, numbers, words, &input, sink)

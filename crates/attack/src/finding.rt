@@ -3,18 +3,21 @@
 ghost use Rattle.std.specs.Prelude.{MatchResult};
 ghost use Rattle.attack.specs.Found.{Finds, FailsToFind};
 
-use crate::errors::AttackError;
+use crate::drawing::Drawing;
+use crate::kinds::Kind;
 use crate::plans::AnyPlan;
+use crate::reasons::{AttackError, AttackReason};
 use crate::requests::Numbers;
-use attacks::laws::searches_find_best;
-use attacks::{Drawing, Kind, Target};
+use crate::search_laws::searches_find_best;
+use crate::targets::Target;
 use machines::Machine;
+use program_words::ProgramError;
 use std::alloc::Global;
 
 /// What is said of an attack that was found.
 #[derive(Clone, Copy, Debug, PartialEq, Eq)]
 pub struct Found {
-    /// Its first locked configuration; None where none of its rounds is locked.
+    /// Its first locked configuration; None if none is locked.
     pub lock: Option<u64>,
     /// The bound of the plan: by then every attack is locked that goes on so long.
     pub bound: u64,
@@ -23,7 +26,7 @@ pub struct Found {
 /// Tries attacks of these kinds on a plan: the text of the one that locks latest, and what is said
 /// of it.
 ///
-/// `NoScript` comes exactly where none of them is read as a script, and `NoMemory` where memory was
+/// `NoScript` comes exactly if none of them is read as a script, and `NoMemory` if memory was
 /// refused.
 pub fn find(
     alloc: Global,
@@ -39,7 +42,7 @@ pub fn find(
     let machine = plan.machine(alloc)?;
     let shape = plan.shape(alloc)?;
     let target = Target::new(&machine, &shape, plan.first_line());
-    target.tell();
+    target.facts();
     let maker = Drawing::new(alloc, &machine, numbers.seed, numbers.runs, kinds)?;
     match target.search(alloc, &maker, numbers.runs)? {
         Some(best) => {
@@ -50,6 +53,6 @@ pub fn find(
             };
             Ok((text, found))
         }
-        None => Err(AttackError::NoScript),
+        None => Err(ProgramError::Refused(AttackReason::NoScript)),
     }
 }

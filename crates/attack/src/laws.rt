@@ -5,7 +5,7 @@ ghost use Rattle.attack.specs.ReadBack.{WrittenIsRead};
 use plan_reader::plan_texts_read_back;
 use pulse_texts::pulses_texts_read_back;
 
-/// The text of an accepted plan, with a text behind it that is read as a script for the plan's
+/// The text of an accepted plan, with a text after it that is read as a script for the plan's
 /// machine, is read as this plan and this script.
 pub fn written_is_read()
     ensures { WrittenIsRead }

@@ -3,7 +3,7 @@
 ghost use Rattle.std.specs.Prelude.{◌≡◌, IfOk};
 ghost use Rattle.texts.specs.Growth.{Puts};
 ghost use Rattle.machine_runner.specs.Laws.{IsShapeOf};
-ghost use Rattle.attacks.specs.Targets.{IsFirstLine};
+ghost use Rattle.attack.specs.Targets.{IsFirstLine};
 ghost use Rattle.attack.specs.PlanTexts.{counter_of, machine_in, shape_in, text_of, first_line_of};
 
 use crate::shapes::{boosting_shape, pulses_shape};
@@ -12,8 +12,7 @@ use node_calls::AnyMachine;
 use plan_machine::PlanMachine;
 use plan_numbers::Plan;
 use plan_reader::write_plan;
-use pulse_machine::PulseMachine;
-use pulse_plan::PulsePlan;
+use pulse_plan::{PulseMachine, PulsePlan};
 use pulse_texts::write_pulses;
 use state_codec::StateShape;
 use std::alloc::Global;
@@ -60,7 +59,7 @@ impl AnyPlan {
     {
         match self {
             AnyPlan::Boosting(plan) => {
-                plan.tell();
+                plan.facts();
                 1 + (plan.depth() as u64 + LINES)
             }
             AnyPlan::Pulses(_) => 1 + LINES,
@@ -69,7 +68,7 @@ impl AnyPlan {
 
     /// Writes the plan's text, in its own version.
     ///
-    /// `WriteFault` comes only where the sink counted a fault; a front of the text was then taken.
+    /// `WriteFault` comes only if the sink counted a fault; a prefix of the text was then taken.
     pub fn write<K: Sink>(&self, sink: &mut K) -> Result<(), WriteFault>
         ensures { Puts result (text_of self.now) (K.told sink.old) (K.told sink.new) }
     {

@@ -1,13 +1,14 @@
 //! Reads a plan of either construction.
 
-ghost use Rattle.std.specs.Prelude.{◌≡◌, IfOk};
+ghost use Rattle.std.specs.Prelude.{◌≡◌, Ok, IfErr, IfOk};
 ghost use Rattle.attack.specs.PlanInputs.{is_first, boosting_answer, plan_answer};
-ghost use Rattle.attack.specs.Errors.{Answers};
 ghost use Rattle.attack.specs.PlanTexts.{IsAcceptedPlan};
+ghost use Rattle.program_words.specs.Conduct.{FailsAs};
 
-use crate::errors::AttackError;
 use crate::plans::AnyPlan;
-use plan_reader::{first_unskipped, read_whole_plan};
+use crate::reasons::{AttackError, AttackReason};
+use plan_reader::{PlanError, first_unskipped, read_whole_plan};
+use program_words::ProgramError;
 use pulse_texts::{PulsesError, read_whole_pulses};
 use std::alloc::Global;
 
@@ -23,34 +24,43 @@ fn is_first(first: Option<u64>, line: u64) -> bool
 
 /// The plan of levels over blocks that a text is.
 fn read_boosting(alloc: Global, text: &[u8]) -> Result<AnyPlan, AttackError>
-    ensures exact { Answers result (boosting_answer text.now) }
+    ensures read { IfOk result (λ plan. boosting_answer text.now ≡ Ok plan) }
+    ensures fails { IfErr result (FailsAs (boosting_answer text.now)) }
     ensures accepted { IfOk result IsAcceptedPlan }
 {
-    let plan = read_whole_plan(alloc, text)?;
-    plan.tell();
-    Ok(AnyPlan::Boosting(plan))
+    match read_whole_plan(alloc, text) {
+        Ok(plan) => {
+            plan.facts();
+            Ok(AnyPlan::Boosting(plan))
+        }
+        Err(PlanError::Refused(refusal)) => {
+            Err(ProgramError::Refused(AttackReason::Levels(refusal)))
+        }
+        Err(PlanError::NoMemory) => Err(ProgramError::NoMemory),
+    }
 }
 
 /// The plan that a text is, after which only skipped lines stand: a pulse plan, or one of levels
 /// over blocks.
 ///
-/// `PulsesRefused` is the first line that fails of a text whose first line that counts is that of a
-/// pulse plan, and `PlanRefused` that of any other text, each with its first premise.
+/// `Pulses` is the first line that fails of a text whose first line that counts is that of a pulse
+/// plan, and `Levels` that of any other text, each with its first premise.
 pub fn read_any_plan(alloc: Global, text: &[u8]) -> Result<AnyPlan, AttackError>
-    ensures exact { Answers result (plan_answer text.now) }
+    ensures read { IfOk result (λ plan. plan_answer text.now ≡ Ok plan) }
+    ensures fails { IfErr result (FailsAs (plan_answer text.now)) }
     ensures accepted { IfOk result IsAcceptedPlan }
 {
     match read_whole_pulses(text) {
         Ok(plan) => {
-            plan.tell();
+            plan.facts();
             Ok(AnyPlan::Pulses(plan))
         }
-        Err(PulsesError::NoMemory) => Err(AttackError::NoMemory),
+        Err(PulsesError::NoMemory) => Err(ProgramError::NoMemory),
         Err(PulsesError::Refused(refusal)) => {
             if is_first(first_unskipped(text, 1), refusal.line) {
                 read_boosting(alloc, text)
             } else {
-                Err(AttackError::PulsesRefused(refusal))
+                Err(ProgramError::Refused(AttackReason::Pulses(refusal)))
             }
         }
     }

@@ -1,10 +1,10 @@
 //! What the words ask for.
 
 ghost use Rattle.std.specs.Prelude.{◌≡◌, map, string_bytes, IfOk};
-ghost use Rattle.attack.specs.Requests.{are_kinds, asked_alone, kind_words, named_kinds};
+ghost use Rattle.attack.specs.Requests.{are_kinds, kind_words, named_kinds};
 ghost use Rattle.attack.specs.Requests.{numbers_by, numbers_with, request_of};
 
-use attacks::Kind;
+use crate::kinds::Kind;
 use edge_io::number;
 use std::alloc::Global;
 use sync_types::NoMemory;
@@ -18,24 +18,13 @@ pub struct Numbers {
     pub runs: u64,
 }
 
-/// What is asked for.
-#[derive(Clone, Copy, Debug, PartialEq, Eq)]
-pub enum Request {
-    /// How the program is used.
-    Help,
-    /// Its name and version.
-    Version,
-    /// A search with these numbers.
-    Search(Numbers),
-}
-
 /// What is above each seed: it has at most 15 digits.
 const LIMIT: u64 = 1_000_000_000_000_000;
 
 /// How many attacks may be tried.
 const MOST_RUNS: u64 = 1_000_000;
 
-/// The numbers of a search, where they keep the limits.
+/// The numbers of a search, if they keep the limits.
 fn numbers_with(seed: u64, runs: u64) -> Option<Numbers>
     ensures { result ≡ numbers_with seed runs }
 {
@@ -45,26 +34,13 @@ fn numbers_with(seed: u64, runs: u64) -> Option<Numbers>
     Some(Numbers { seed, runs })
 }
 
-/// The same, where each word is a number.
+/// The same, if each word is a number.
 fn numbers_by(seed: Option<u64>, runs: Option<u64>) -> Option<Numbers>
     ensures { result ≡ numbers_by seed runs }
 {
     match (seed, runs) {
         (Some(seed), Some(runs)) => numbers_with(seed, runs),
         _ => None,
-    }
-}
-
-/// What a single word asks for.
-fn asked_alone(word: &str) -> Option<Request>
-    ensures { result ≡ asked_alone word.now }
-{
-    if word == "--help" {
-        Some(Request::Help)
-    } else if word == "--version" {
-        Some(Request::Version)
-    } else {
-        None
     }
 }
 
@@ -80,24 +56,22 @@ fn are_kinds(words: &[String]) -> bool
     true
 }
 
-/// What these words ask for: None exactly where they ask for nothing.
-pub fn request_of(words: &[String]) -> Option<Request>
+/// What these words ask for: None exactly if they ask for no search.
+pub fn request_of(words: &[String]) -> Option<Numbers>
     ensures { result ≡ request_of (map string_bytes words.now) }
 {
     match words {
-        [word] => asked_alone(word.as_str()),
         [seed, runs, kinds @ ..] => {
             if !are_kinds(kinds) {
                 return None;
             }
-            let numbers = numbers_by(number(seed.as_bytes()), number(runs.as_bytes()))?;
-            Some(Request::Search(numbers))
+            numbers_by(number(seed.as_bytes()), number(runs.as_bytes()))
         }
         _ => None,
     }
 }
 
-/// The words behind the numbers.
+/// The words after the numbers.
 pub fn kind_words(words: &[String]) -> &[String]
     ensures { map string_bytes result.now ≡ kind_words (map string_bytes words.now) }
 {

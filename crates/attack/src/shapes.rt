@@ -3,7 +3,7 @@
 ghost use Rattle.std.specs.Prelude.{◌≡◌, IfOk};
 ghost use Rattle.state_codec.specs.Shapes as boosting;
 ghost use Rattle.plan_machine.specs.PlanMachines.{machine_of_plan};
-ghost use Rattle.pulse_nodes.specs.PulseShapes as pulses;
+ghost use Rattle.pulse_texts.specs.PulseShapes as pulses;
 ghost use Rattle.pulse_plan.specs.Laws.{machine_in};
 ghost use Rattle.machine_runner.specs.Laws.{IsShapeOf};
 
@@ -19,7 +19,7 @@ pub fn boosting_shape(alloc: Global, plan: &Plan) -> Result<StateShape, NoMemory
     ensures fits { IfOk result (λ shape. IsShapeOf (machine_of_plan plan.now) shape) }
 {
     let shape = StateShape::of(alloc, plan)?;
-    shape.tell();
+    shape.facts();
     Ok(shape)
 }
 
@@ -28,6 +28,6 @@ pub fn pulses_shape(alloc: Global, plan: &PulsePlan) -> Result<StateShape, NoMem
     ensures value { IfOk result (λ shape. shape ≡ pulses.shape_of plan.now) }
     ensures fits { IfOk result (λ shape. IsShapeOf (machine_in plan.now) shape) }
 {
-    plan.tell();
-    pulse_nodes::shape_of(alloc, plan)
+    plan.facts();
+    pulse_texts::shape_of(alloc, plan)
 }

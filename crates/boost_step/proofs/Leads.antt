@@ -11,14 +11,14 @@ use Rattle.counting.proofs.Counts.{count_of_numbers}
 use Rattle.counting.proofs.Majority.{majority_is, no_majority, majority_has, majority_below_at}
 use Rattle.boost_step.specs.Leads.{Leads, times_of}
 
--- the number comes once more behind itself
+-- the number comes once more after itself
 pub times_yes : (numbers : List ℕ) (x n : ℕ) → x ≡ n
     → times_of (numbers ++ n ∷ []) x ≡ times_of numbers x + 1
 times_yes numbers x n e =
     sum_by_push (λ y. if nat_eq x y then 1 else 0) numbers n
     ∙ ap (λ (b : Bool). times_of numbers x + (if b then 1 else 0)) (eq-eqb x n e)
 
--- and no more often behind another one
+-- and no more often after another one
 pub times_no : (numbers : List ℕ) (x n : ℕ) → x ≢ n
     → times_of (numbers ++ n ∷ []) x ≡ times_of numbers x
 times_no numbers x n ne =
@@ -26,11 +26,7 @@ times_no numbers x n ne =
     ∙ ap (λ (b : Bool). times_of numbers x + (if b then 1 else 0)) (ne_eqb x n ne)
     ∙ omega arith
 
--- of no numbers any leads by none
-pub begins : (number : ℕ) → Leads [] number 0
-begins number = record { there = omega arith; itself = omega arith; others = λ x ne. omega arith }
-
--- where none leads, no number is most
+-- if none leads, no number is most
 half_at_most : (numbers : List ℕ) (number x : ℕ) → Leads numbers number 0
     → 2 * times_of numbers x ≤ length numbers
 half_at_most numbers number x leads = ⊎_elim
@@ -38,7 +34,7 @@ half_at_most numbers number x leads = ⊎_elim
     (λ ne. omega (arith, leads.others x ne))
     (cases_eq x number)
 
--- where none leads, the next number does
+-- if none leads, the next number does
 pub takes_over : (numbers : List ℕ) (number n : ℕ) → Leads numbers number 0
     → Leads (numbers ++ n ∷ []) n 1
 takes_over numbers number n leads =
@@ -101,7 +97,7 @@ leads_most numbers number lead leads more =
     let there = leads.there in
     is_most numbers number (omega (arith, there, more))
 
--- where the one that leads is not most, none is
+-- if the one that leads is not most, none is
 pub none_most : (numbers : List ℕ) (number lead : ℕ) → Leads numbers number lead
     → 2 * times_of numbers number ≤ length numbers → 0 ≡ majority_or_zero numbers
 none_most numbers number lead leads few =
@@ -113,13 +109,13 @@ none_most numbers number lead leads few =
     (λ ne. omega (arith, long, count, leads.others z ne))
     (cases_eq z number))))
 
--- where none leads, none is most
+-- if none leads, none is most
 pub none_leads : (numbers : List ℕ) (number : ℕ) → Leads numbers number 0
     → 0 ≡ majority_or_zero numbers
 none_leads numbers number leads =
     none_most numbers number 0 leads (half_at_most numbers number number leads)
 
--- a majority of zeros and ones is 0 where 1 is not most
+-- a majority of zeros and ones is 0 if 1 is not most
 zero_by : (numbers : List ℕ) (found : Option ℕ) → majority_of (map Some numbers) ≡ found
     → unwrap_or found 0 < 2 → 2 * times_of numbers 1 ≤ length numbers → 0 ≡ unwrap_or found 0
 zero_by numbers None e lt few = refl

@@ -1,5 +1,5 @@
 -- What a step of the group does beside the level's register: inner outputs are heard, the node's
--- block steps, and the register is put behind.
+-- block steps, and the register is put at the end.
 use Rattle.std.proofs.Common.{◌≡◌, ℕ, ◌+◌, ◌-◌, ◌*◌, ◌/◌, ◌%◌, ◌<◌, ◌≤◌, List, [], ◌∷◌, ◌++◌}
 use Rattle.std.proofs.Common.{length, take, drop, map, set, sym, ap, ◌∙◌, subst, arith}
 use Rattle.std.proofs.Common.{append_assoc}
@@ -57,7 +57,7 @@ pub length_written : (d : ℕ) (s out : State) → length s.registers ≡ d → 
 length_written d s out e le = length-append s.registers (drop d out.registers)
     ∙ omega (arith, length-drop d out.registers)
 
--- the register is put behind those of the counter below
+-- the register is put after those of the counter below
 pub register_written : (d : ℕ) (s out : State) (r : Reg) → length s.registers ≡ d
     → d < length out.registers
     → record (written d s out) { registers = set (written d s out).registers d r }

@@ -20,9 +20,8 @@ use std::marker::Model;
 use sync_types::{NodeState, Premise, Reg};
 
 /// A level over blocks of a counter. Its nodes stand in blocks, each of which is the counter below,
-/// and behind the blocks stand its spares. All of them have a register more, which comes to count
-/// where few nodes are faulty in all, even if some blocks have too many. A spare has no other
-/// field.
+/// and after the blocks stand its spares. All of them have one more register, which comes to count
+/// if few nodes are faulty in all, even if some blocks have too many. A spare has no other field.
 #[derive(Drop)]
 pub struct Boost<A: Counter> {
     inner: A,
@@ -43,7 +42,7 @@ impl<A: Counter> Model for Boost<A> {
 }
 
 impl<A: Counter> Boost<A> {
-    /// A level of `k` blocks of `inner` and `s` spare nodes behind them, with `f` faults and the
+    /// A level of `k` blocks of `inner` and `s` spare nodes after them, with `f` faults and the
     /// modulus `c`. An error is the first premise that the level fails, in the order `Limit`,
     /// `Blocks`, `Modulus`, `Quorum`, `Share`, `Multiple`.
     pub fn new(inner: A, k: u64, f: u64, c: u64, s: u64) -> Result<Boost<A>, Premise>
@@ -139,7 +138,7 @@ fn step_in_block<A: Counter>(
     inner.advance(place_in(place, n), &block, work, out);
 }
 
-/// The step of the node at a place below the level: in its block, or zero where it is a spare.
+/// The step of the node at a place below the level: in its block, or zero if it is a spare.
 fn step_below<A: Counter>(
     inner: &A,
     nums: &LevelNums,

@@ -33,8 +33,8 @@ impl Divisor {
         }
     }
 
-    /// This number times another. Where the other is known when this is compiled, and a power of
-    /// two, it takes no division.
+    /// This number times another. If the other is known when this is compiled, and a power of two,
+    /// it takes no division.
     pub fn times(&self, other: u64) -> Divisor
         requires some { 1 ≤ other }
         requires small { self.now * other < 2 ^ 64 }

@@ -17,7 +17,7 @@ use counter_core::{Heard, HeardRegister, Work};
 use plan_numbers::LevelNums;
 use sync_types::Reg;
 
-/// The interval of the block behind one with this interval.
+/// The interval of the block after one with this interval.
 fn next_interval(interval: &Divisor, leaders: u64) -> Divisor
     requires leaders { 1 ≤ leaders }
     requires few { leaders ≤ 256 }
@@ -73,8 +73,8 @@ pub fn beat(nums: &LevelNums, work: &mut Work) -> u64
 /// group: the new register. The node may be a spare.
 ///
 /// The inner outputs are the numbers that `work` keeps at the places of the blocks' nodes; those at
-/// the places of spares behind them are not read. `register` is the index of the level's register
-/// in the states.
+/// the places of spares after them are not read. `register` is the index of the level's register in
+/// the states.
 pub fn level_step(
     nums: &LevelNums,
     place: u32,

@@ -13,7 +13,7 @@ struct Candidate {
     lead: usize,
 }
 
-/// The one that leads where this number comes behind.
+/// The one that leads if this number comes next.
 fn follow(leading: Candidate, number: u64) -> Candidate
     requires { leading.lead + 1 < 2 ^ 64 }
     ensures leads { (numbers : List ℕ) → Leads numbers leading.number leading.lead
@@ -59,7 +59,7 @@ fn times<R: Reading>(reading: &R, numbers: &[u64], wanted: u64) -> usize
     times
 }
 
-/// The number that is read of more than half of these, 0 where there is none.
+/// The number that is read of more than half of these, 0 if there is none.
 pub(crate) fn most<R: Reading>(reading: &R, numbers: &[u64]) -> u64
     ensures { result ≡ majority_or_zero (map (R.read reading.now) numbers.now) }
 {
@@ -76,7 +76,7 @@ pub(crate) fn most<R: Reading>(reading: &R, numbers: &[u64]) -> u64
     }
 }
 
-/// The same where no number but 0 and 1 is read of these.
+/// The same if no number but 0 and 1 is read of these.
 pub(crate) fn most_of_two<R: Reading>(reading: &R, numbers: &[u64]) -> u64
     requires { All (λ n. R.read reading.now n < 2) numbers.now }
     ensures { result ≡ majority_or_zero (map (R.read reading.now) numbers.now) }
@@ -88,7 +88,7 @@ pub(crate) fn most_of_two<R: Reading>(reading: &R, numbers: &[u64]) -> u64
     }
 }
 
-/// The same where all that is read of these is below a bound.
+/// The same if all that is read of these is below a bound.
 pub(crate) fn most_below<R: Reading>(reading: &R, numbers: &[u64], bound: u64) -> u64
     requires { All (λ n. R.read reading.now n < bound) numbers.now }
     ensures { result ≡ majority_or_zero (map (R.read reading.now) numbers.now) }

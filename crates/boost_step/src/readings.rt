@@ -29,7 +29,7 @@ impl Reading for Pointer {
     }
 }
 
-/// The leader to which an output points, in a block of this interval, where there are two leaders.
+/// The leader to which an output points, in a block of this interval, if there are two leaders.
 #[derive(Drop)]
 pub(crate) struct PointerOfTwo {
     pub interval: Divisor,

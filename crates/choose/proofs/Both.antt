@@ -1,4 +1,4 @@
--- No plan is better than the pulse plan of fewest nodes, where a fault is to be tolerated.
+-- No plan is better than the pulse plan of fewest nodes, if a fault is to be tolerated.
 use Rattle.std.proofs.Common.{ℕ, ◌+◌, ◌-◌, ◌*◌, ◌<◌, ◌≤◌, ◌^◌, List, [], ◌∷◌, refl}
 use Rattle.std.proofs.Common.{arith}
 use Rattle.std.specs.Prelude.{Some, None}
@@ -78,7 +78,7 @@ none_suits f c most few = record {
       absurd (omega (arith, few, more_nodes most f other tolerates, tolerates.nodes));
 }
 
--- one plan is a front, where none is better
+-- one plan is a front, if none is better
 one_front : (f c most : ℕ) (plan : AnyPlan) → Suits f c most plan
     → ((other : AnyPlan) → Tolerates most f other → IsNoWorse other plan)
     → IsFrontOfBoth f c most (Some plan)

@@ -1,4 +1,4 @@
--- What stands below the top level of a plan: fewer nodes, which bear enough faults, at a lesser
+-- What stands below the top level of a plan: fewer nodes, which tolerate enough faults, at a lesser
 -- bound.
 use Rattle.std.proofs.Common.{◌≡◌, ℕ, ◌+◌, ◌*◌, ◌/◌, ◌<◌, ◌≤◌, ◌^◌, List, [], ◌∷◌, sym, ap, subst}
 use Rattle.std.proofs.Common.{arith}
@@ -80,7 +80,7 @@ module _ (n f k : ℕ) (some : 3 ≤ k) where
   none_dear_by dear version base (level ∷ below) bears top =
       absurd (omega (arith, dear, span_fits n f k version base level below some bears top))
 
-  -- where the span is larger than any modulus, no plan has such a top level
+  -- if the span is larger than any modulus, no plan has such a top level
   pub none_dear : (dear : 2 ^ 40 < cost_of k f) (plan : Plan) → ¬ Blocks n f k plan
   none_dear dear plan has = none_dear_by dear plan.version plan.base plan.levels has.bears has.top
 
@@ -91,7 +91,7 @@ module _ (n f k : ℕ) (some : 3 ≤ k) where
   none_over_by none version base (level ∷ below) bears top =
       none (plan_of version base below) (bears_below n f k version base level below some bears top)
 
-  -- where no plan can be a block, no plan has such a top level
+  -- if no plan can be a block, no plan has such a top level
   pub none_over : ((other : Plan) → ¬ Bears (n / k) (f / div_ceil k 2) other)
       → (plan : Plan) → ¬ Blocks n f k plan
   none_over none plan has = none_over_by none plan.version plan.base plan.levels has.bears has.top

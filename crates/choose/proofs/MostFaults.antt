@@ -45,7 +45,7 @@ module _ (n t f : ℕ) (few : n ≤ 256) (most : AreMost n t (div_ceil n 3) f) w
     most = none_more;
   }
 
--- where no fault can be tolerated, one node is enough
+-- if no fault can be tolerated, one node is enough
 pub lone_most : (n t c : ℕ) → 1 ≤ n → n ≤ 256 → 2 ≤ c → c ≤ 2 ^ 40 → AreMost n t (div_ceil n 3) 0
     → IsMost n t c (Boosting (plan_of 2 c []))
 lone_most n t c some few least_c most_c most = record {

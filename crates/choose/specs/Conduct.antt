@@ -1,13 +1,13 @@
--- What `choose` did to its sink, and how the program ends.
-use Rattle.std.specs.Prelude.{◌≡◌, ℕ, List, Option, Some, None}
-use Rattle.std.specs.Option.{IsSomeAnd}
-use Rattle.texts.specs.Growth.{Told, Wrote, Cut}
+-- What `choose` did to its sink for what its words ask for.
+use Rattle.std.specs.Prelude.{◌≡◌, ℕ, List, Option, Some, None, Result, Ok, Err}
+use Rattle.texts.specs.Growth.{SinkState, Wrote, Cut}
 use Rattle.construction.specs.Plans.{Plan}
-use Rattle.sync_types.specs.declared.status.Status.{Status}
-use Rattle.sync_types.specs.declared.status.Status.TheVariants as status
 use Rattle.plan_finder.specs.declared.wants.Want.{Want}
-use Rattle.choose.specs.declared.choosing.ChooseError.{ChooseError}
-use Rattle.choose.specs.declared.choosing.ChooseError.TheVariants as error
+use Rattle.program_words.specs.Asked.{asked_by}
+use Rattle.program_words.specs.Conduct as program
+use Rattle.program_words.specs.declared.errors.ProgramError.{ProgramError}
+use Rattle.program_words.specs.declared.errors.ProgramError.TheVariants as error
+use Rattle.choose.specs.declared.reasons.ChooseReason.{ChooseReason}
 use Rattle.choose.specs.declared.any_plans.AnyPlan.{AnyPlan}
 use Rattle.choose.specs.declared.requests.Room.{Room}
 use Rattle.choose.specs.declared.requests.Scope.{Scope}
@@ -22,6 +22,7 @@ use Rattle.choose.specs.FrontsOfBothText.{any_line, any_text, both_front_text, b
 use Rattle.choose.specs.MostFaults.{IsMost}
 use Rattle.choose.specs.Shortages.{IsShortage, shortage_text}
 use Rattle.choose.specs.HelpText.{help_text, version_text}
+use Rattle.choose.specs.Requests.{request_of}
 
 -- a front of the boosting construction for the wants has this
 abbrev pub OfFront : (List Plan → Type 0) → Want → Type 0
@@ -39,8 +40,6 @@ OfMost holds room = (plan : AnyPlan) × IsMost room.nodes room.bound room.modulu
 
 -- a text that answers the request has this
 abbrev pub OfAnswer : (List ℕ → Type 0) → Request → Type 0
-OfAnswer holds request.Help = holds help_text
-OfAnswer holds request.Version = holds version_text
 OfAnswer holds (request.Front scope.Both want) =
     OfFrontOfBoth (λ plan. holds (both_front_text plan)) want
 OfAnswer holds (request.LastPlan scope.Both want) =
@@ -52,60 +51,49 @@ OfAnswer holds (request.LastPlan scope.Boosting want) =
 OfAnswer holds (request.Most room) = OfMost (λ plan. holds (any_line plan)) room
 OfAnswer holds (request.MostPlan room) = OfMost (λ plan. holds (any_text plan)) room
 
--- a plan is to be searched
-abbrev pub IsSearch : Request → Type 0
-IsSearch request.Help = ⊥
-IsSearch request.Version = ⊥
-IsSearch (request.Front scope want) = Unit {0}
-IsSearch (request.LastPlan scope want) = Unit {0}
-IsSearch (request.Most room) = Unit {0}
-IsSearch (request.MostPlan room) = Unit {0}
+-- What was written for a request: the answer; or nothing, since memory was refused; or a prefix of
+-- the answer.
+abbrev pub Answers : {T : Type 0} → Request → Result T (ProgramError ChooseReason)
+    → (old new : SinkState) → Type 0
+Answers asked (Ok value) old new = OfAnswer (λ text. Wrote text old new) asked
+Answers asked (Err error.WriteFault) old new = OfAnswer (λ text. Cut text old new) asked
+Answers asked (Err error.NoMemory) old new = new ≡ old
+Answers asked (Err other) old new = ⊥
 
--- the answer was written, all of it
-abbrev pub Answers : Option Request → (old new : Told) → Type 0
-Answers asked old new = IsSomeAnd asked (OfAnswer (λ text. Wrote text old new))
+-- and for words
+abbrev pub DoesAsked : {T : Type 0} → (words : List (List ℕ)) → Result T (ProgramError ChooseReason)
+    → (old new : SinkState) → Type 0
+DoesAsked words result old new =
+    program.DoesAsked help_text version_text (λ asked. Answers asked result old new)
+    (asked_by words (request_of words)) result old new
 
-abbrev pub Fails : Option Request → (old new : Told) → ChooseError → Type 0
-Fails asked old new error.Usage = (asked ≡ None) × (new ≡ old)
-Fails asked old new error.NoMemory = IsSomeAnd asked IsSearch × (new ≡ old)
-Fails asked old new error.WriteFault = IsSomeAnd asked (OfAnswer (λ text. Cut text old new))
-
--- a text that says why there is no plan for these wants, and the empty one where there is a plan
+-- a text that says why there is no plan for these wants, and the empty one if there is a plan
 abbrev pub OfShortage : (List ℕ → Type 0) → Scope → Want → Type 0
 OfShortage holds scope want =
     (short : Option Shortage) × IsShortage scope want short × holds (shortage_text want short)
 
--- where there is no plan for these wants, the line that says why was written, and else nothing
-abbrev pub ExplainsWants : Scope → Want → (old new : Told) → Type 0
-ExplainsWants scope want old new = OfShortage (λ text. Wrote text old new) scope want
+-- If there is no plan for these wants, the line that says why was written, and else nothing; or
+-- memory was refused and nothing was written, or the line was cut.
+abbrev pub ExplainsWants : {T : Type 0} → Scope → Want → Result T (ProgramError ChooseReason)
+    → (old new : SinkState) → Type 0
+ExplainsWants scope want (Ok value) old new = OfShortage (λ text. Wrote text old new) scope want
+ExplainsWants scope want (Err error.WriteFault) old new =
+    OfShortage (λ text. Cut text old new) scope want
+ExplainsWants scope want (Err error.NoMemory) old new = new ≡ old
+ExplainsWants scope want (Err other) old new = ⊥
 
--- or memory was refused and nothing was written, or the line was cut
-abbrev pub FailsOnWants : Scope → Want → (old new : Told) → ChooseError → Type 0
-FailsOnWants scope want old new error.Usage = ⊥
-FailsOnWants scope want old new error.NoMemory = new ≡ old
-FailsOnWants scope want old new error.WriteFault = OfShortage (λ text. Cut text old new) scope want
+-- Nothing is said, and nothing fails, if no front is asked for, nor its last plan.
+abbrev pub SaysNothing : {T : Type 0} → Result T (ProgramError ChooseReason)
+    → (old new : SinkState) → Type 0
+SaysNothing (Ok value) old new = new ≡ old
+SaysNothing (Err e) old new = ⊥
 
-abbrev pub Explains : Option Request → (old new : Told) → Type 0
-Explains (Some (request.Front scope want)) old new = ExplainsWants scope want old new
-Explains (Some (request.LastPlan scope want)) old new = ExplainsWants scope want old new
-Explains (Some request.Help) old new = new ≡ old
-Explains (Some request.Version) old new = new ≡ old
-Explains (Some (request.Most room)) old new = new ≡ old
-Explains (Some (request.MostPlan room)) old new = new ≡ old
-Explains None old new = new ≡ old
-
--- it fails only where a front, or its last plan, is asked for
-abbrev pub FailsToExplain : Option Request → (old new : Told) → ChooseError → Type 0
-FailsToExplain (Some (request.Front scope want)) old new e = FailsOnWants scope want old new e
-FailsToExplain (Some (request.LastPlan scope want)) old new e = FailsOnWants scope want old new e
-FailsToExplain (Some request.Help) old new e = ⊥
-FailsToExplain (Some request.Version) old new e = ⊥
-FailsToExplain (Some (request.Most room)) old new e = ⊥
-FailsToExplain (Some (request.MostPlan room)) old new e = ⊥
-FailsToExplain None old new e = ⊥
-
--- how the program ends where this is the error
-abbrev pub status_of : ChooseError → Status
-status_of error.Usage = status.Usage
-status_of error.NoMemory = status.NoMemory
-status_of error.WriteFault = status.WriteFault
+abbrev pub Explains : {T : Type 0} → Option Request → Result T (ProgramError ChooseReason)
+    → (old new : SinkState) → Type 0
+Explains (Some (request.Front scope want)) result old new =
+    ExplainsWants scope want result old new
+Explains (Some (request.LastPlan scope want)) result old new =
+    ExplainsWants scope want result old new
+Explains (Some (request.Most room)) result old new = SaysNothing result old new
+Explains (Some (request.MostPlan room)) result old new = SaysNothing result old new
+Explains None result old new = SaysNothing result old new

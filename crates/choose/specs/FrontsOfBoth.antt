@@ -35,7 +35,7 @@ pub record Tolerates (n f : ℕ) (plan : AnyPlan) : Type 0 where
   pub nodes : nodes_of plan ≤ n
   pub faults : f ≤ faults_of plan
 
--- A plan of the boosting construction, of version 2, where no fault is to be tolerated, and else a
+-- A plan of the boosting construction, of version 2, if no fault is to be tolerated, and else a
 -- pulse plan.
 abbrev pub IsOfForm : (f : ℕ) → AnyPlan → Type 0
 IsOfForm f (Boosting plan) = (plan.version ≡ 2) × (f ≡ 0)
@@ -57,7 +57,7 @@ IsNoWorse other plan = (nodes_of plan ≤ nodes_of other) × (bound_of plan ≤ 
 
 -- Plans that suit, each with fewer nodes and a greater bound than any later one. No accepted plan
 -- of either construction is better: one that tolerates f faults within so many nodes, whatever it
--- counts by, has at least the nodes and the bound of one of these. So there are none just where no
+-- counts by, has at least the nodes and the bound of one of these. So there are none exactly if no
 -- such plan is accepted.
 pub record IsFrontOf (f c most : ℕ) (plans : List AnyPlan) : Type 0 where
   pub suit : All (Suits f c most) plans

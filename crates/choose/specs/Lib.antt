@@ -5,6 +5,7 @@ pub mod FrontText
 pub mod FrontsOfBothText
 pub mod HelpText
 pub mod Requests
+pub mod Reasons
 pub mod Conduct
 pub mod MostFaults
 pub mod Shortages

@@ -1,5 +1,5 @@
 -- What the words ask for: `[boosting] FAULTS MODULUS [MOST_NODES] [plan]`,
--- `within NODES BOUND MODULUS [plan]`, `--help` or `--version`.
+-- `within NODES BOUND MODULUS [plan]`.
 use Rattle.std.specs.Prelude.{ℕ, ◌^◌, ◌≤◌, List, [], ◌∷◌, ◌||◌, nat_lt, Option, Some, None, codes}
 use Rattle.std.specs.Prelude.{if◌then◌else◌}
 use Rattle.std.specs.Option.{option_map}
@@ -19,20 +19,13 @@ want_with f c most =
     if nat_lt 85 f || nat_lt c 2 || nat_lt (2 ^ 40) c || nat_lt most 1 || nat_lt 256 most then None
     else Some (record { faults = f; modulus = c; most = most })
 
--- the same, where each of them is a number
+-- the same, if each of them is a number
 abbrev pub want_by : (f c most : Option ℕ) → Option Want
 want_by (Some f) (Some c) (Some most) = want_with f c most
 want_by f c most = None
 
--- what a single word asks for
-abbrev pub asked_alone : List ℕ → Option Request
-asked_alone word =
-    if bytes_eq word (codes "--help") then Some request.Help
-    else if bytes_eq word (codes "--version") then Some request.Version
-    else None
-
 -- The wants of `FAULTS MODULUS [MOST_NODES] [plan]`, in these constructions. The most nodes are 256
--- where they are left out.
+-- if they are left out.
 abbrev pub search_of : Scope → List (List ℕ) → Option Request
 search_of scope [] = None
 search_of scope (word ∷ []) = None
@@ -54,12 +47,12 @@ room_with n t c =
     if nat_lt n 1 || nat_lt 256 n || nat_lt c 2 || nat_lt (2 ^ 40) c then None
     else Some (record { nodes = n; bound = t; modulus = c })
 
--- the same, where each of them is a number
+-- the same, if each of them is a number
 abbrev pub room_by : (n t c : Option ℕ) → Option Room
 room_by (Some n) (Some t) (Some c) = room_with n t c
 room_by n t c = None
 
--- what `NODES BOUND MODULUS [plan]` asks for, behind `within`
+-- what `NODES BOUND MODULUS [plan]` asks for, after `within`
 abbrev pub within_of : List (List ℕ) → Option Request
 within_of [] = None
 within_of (word ∷ []) = None
@@ -75,7 +68,7 @@ within_of (n ∷ t ∷ c ∷ last ∷ more ∷ words) = None
 -- With `boosting` before them it is the plans of that construction alone.
 abbrev pub request_of : List (List ℕ) → Option Request
 request_of [] = None
-request_of (word ∷ []) = asked_alone word
+request_of (word ∷ []) = None
 request_of (first ∷ second ∷ words) =
     if bytes_eq first (codes "boosting") then search_of scope.Boosting (second ∷ words)
     else if bytes_eq first (codes "within") then within_of (second ∷ words)
@@ -89,8 +82,6 @@ pub record IsRoom (room : Room) : Type 0 where
 
 -- the wants of a request keep the limits
 abbrev pub HasFitWant : Request → Type 0
-HasFitWant request.Help = Unit {0}
-HasFitWant request.Version = Unit {0}
 HasFitWant (request.Front scope want) = IsFit want
 HasFitWant (request.LastPlan scope want) = IsFit want
 HasFitWant (request.Most room) = IsRoom room

@@ -1,5 +1,5 @@
 -- Why there is no plan for some wants: how many nodes their faults take, and how many faults their
--- nodes tolerate. Neither hangs on what is counted by.
+-- nodes tolerate. Neither depends on what is counted by.
 use Rattle.std.specs.Prelude.{ℕ, ◌≤◌, List, [], ◌∷◌, ◌++◌, Option, Some, None, codes, decimal}
 use Rattle.std.specs.List.{concat}
 use Rattle.construction.specs.Plans.{Plan}
@@ -22,7 +22,7 @@ IsIn scope.Boosting (Pulses plan) = ⊥
 abbrev pub CanTolerate : Scope → (n f : ℕ) → Type 0
 CanTolerate scope n f = (plan : AnyPlan) × IsIn scope plan × Tolerates n f plan
 
--- how many nodes f faults take, None where no plan of at most 256 nodes tolerates them
+-- how many nodes f faults take, None if no plan of at most 256 nodes tolerates them
 abbrev pub AreFewest : Scope → (f : ℕ) → Option ℕ → Type 0
 AreFewest scope f (Some n) = CanTolerate scope n f × ((m : ℕ) → CanTolerate scope m f → n ≤ m)
 AreFewest scope f None = (m : ℕ) → m ≤ 256 → ¬ CanTolerate scope m f
@@ -37,17 +37,17 @@ pub record IsShort (scope : Scope) (want : Want) (short : Shortage) : Type 0 whe
   pub nodes : AreFewest scope want.faults short.nodes
   pub faults : IsMostOf scope want.most short.faults
 
--- where there is a plan, there is no shortage
+-- if there is a plan, there is no shortage
 abbrev pub IsShortage : Scope → Want → Option Shortage → Type 0
 IsShortage scope want None = CanTolerate scope want.most want.faults
 IsShortage scope want (Some short) = IsShort scope want short
 
--- there is such a plan just where this list has one
+-- there is such a plan exactly if this list has one
 abbrev pub IsTold : Scope → (n f : ℕ) → {X : Type 0} → List X → Type 0
 IsTold scope n f [] = ¬ CanTolerate scope n f
 IsTold scope n f (plan ∷ rest) = CanTolerate scope n f
 
--- A front of plans that count by c has a plan just where there is one that counts by any number.
+-- A front of plans that count by c has a plan exactly if there is one that counts by any number.
 abbrev pub ModulusDecidesNothing : Type 0
 ModulusDecidesNothing = (f c most : ℕ)
     → ((plans : List Plan) → IsFront f c most plans → IsTold scope.Boosting most f plans)

@@ -1,87 +1,39 @@
 //! Does what the words ask for.
 
-ghost use Rattle.std.specs.Prelude.{◌≡◌, map, string_bytes, Some, MatchResult};
-ghost use Rattle.choose.specs.Requests.{request_of};
-ghost use Rattle.choose.specs.Conduct.{Answers, Fails, status_of};
-ghost use Rattle.choose.specs.Conduct.{Explains, ExplainsWants, FailsOnWants, FailsToExplain};
+ghost use Rattle.std.specs.Prelude.{map, string_bytes};
+ghost use Rattle.choose.specs.Requests.{request_of, HasFitWant, IsRoom};
+ghost use Rattle.choose.specs.Conduct.{Answers, DoesAsked, Explains, ExplainsWants};
 ghost use Rattle.choose.specs.FrontText.{TextsArePlans};
 ghost use Rattle.choose.specs.FrontsOfBothText.{PulseTextsArePlans};
 ghost use Rattle.choose.specs.Shortages.{ModulusDecidesNothing};
 ghost use Rattle.choose.specs.declared.requests.Request.TheVariants as request;
-ghost use Rattle.choose.specs.Requests.{IsRoom};
 ghost use Rattle.plan_finder.specs.FindPart.{IsFit};
 
 use crate::fronts::front;
 use crate::fronts_of_both::front_of_both;
 use crate::laws::{modulus_decides_nothing, pulse_texts_are_plans, texts_are_plans};
 use crate::most_faults::most_plan;
+use crate::reasons::ChooseError;
 use crate::requests::{Request, Room, Scope, request_of};
 use crate::shortages::{shortage_of, write_shortage};
-use crate::writing::{write_front, write_help, write_last_plan, write_version};
+use crate::writing::{write_front, write_last_plan};
 use crate::writing_both::{write_both_front, write_both_plan};
-use edge_io::{Sink, WriteFault};
+use edge_io::{Sink, put_all};
 use plan_finder::Want;
-use std::alloc::{AllocError, Global};
-use sync_types::{NoMemory, Status};
-use thiserror::Error;
+use program_words::{Asked, ProgramError, asked_by};
+use std::alloc::Global;
 
-/// Why what the words ask for was not written, or not all of it.
-#[derive(Clone, Copy, Debug, PartialEq, Eq, Error)]
-pub enum ChooseError {
-    /// The words ask for nothing.
-    #[error("usage: choose [boosting] FAULTS MODULUS [MOST_NODES] [plan], \
-        choose within NODES BOUND MODULUS [plan], or choose --help")]
-    Usage,
-    /// Memory was refused.
-    #[error("out of memory")]
-    NoMemory,
-    /// A write failed.
-    #[error("the answer could not be written")]
-    WriteFault,
-}
-
-impl ChooseError {
-    /// How the program ends: as `counterlab` does for the same cause.
-    pub fn status(self) -> Status
-        ensures { result ≡ status_of self }
-    {
-        match self {
-            ChooseError::Usage => Status::Usage,
-            ChooseError::NoMemory => Status::NoMemory,
-            ChooseError::WriteFault => Status::WriteFault,
-        }
-    }
-}
-
-impl From<AllocError> for ChooseError {
-    ghost use Rattle.choose.specs.declared.choosing.ChooseError.TheVariants as error;
-
-    ghost from_gives = { λ _ e. e ≡ error.NoMemory };
-
-    fn from(_: AllocError) -> Self {
-        ChooseError::NoMemory
-    }
-}
-
-impl From<NoMemory> for ChooseError {
-    ghost use Rattle.choose.specs.declared.choosing.ChooseError.TheVariants as error;
-
-    ghost from_gives = { λ _ e. e ≡ error.NoMemory };
-
-    fn from(_: NoMemory) -> Self {
-        ChooseError::NoMemory
-    }
-}
-
-impl From<WriteFault> for ChooseError {
-    ghost use Rattle.choose.specs.declared.choosing.ChooseError.TheVariants as error;
-
-    ghost from_gives = { λ _ e. e ≡ error.WriteFault };
-
-    fn from(_: WriteFault) -> Self {
-        ChooseError::WriteFault
-    }
-}
+/// How the program is used.
+const HELP: &[u8] = b"usage: choose [boosting] FAULTS MODULUS [MOST_NODES] [plan]\n\
+\x20      choose within NODES BOUND MODULUS [plan]\n\
+    Writes the front of nodes and bound of the plans that tolerate FAULTS\n\
+    faults or more (0 to 85), count by MODULUS (2 to 2^40) and have at\n\
+    most MOST_NODES nodes (1 to 256; left out 256): a line for each plan,\n\
+    with more nodes and a lesser bound than the one before, or none.\n\
+    boosting: of the plans of counterlab alone, not of pulselab.\n\
+    plan: the plan of the last line alone, in lines.\n\
+    within: a plan that tolerates the most faults of all plans with at most\n\
+    NODES nodes (1 to 256) and a bound of at most BOUND rounds.\n";
 
 /// Writes the lines of a front for these wants, or `none`.
 fn write_lines<K: Sink>(
@@ -91,9 +43,7 @@ fn write_lines<K: Sink>(
     sink: &mut K,
 ) -> Result<(), ChooseError>
     requires { IsFit want.now }
-    ensures { MatchResult result
-        (λ _. Answers (Some (request.Front scope want.now)) (K.told sink.old) (K.told sink.new))
-        (Fails (Some (request.Front scope want.now)) (K.told sink.old) (K.told sink.new)) }
+    ensures { Answers (request.Front scope want.now) result (K.told sink.old) (K.told sink.new) }
 {
     match scope {
         Scope::Both => {
@@ -115,9 +65,7 @@ fn write_plan_alone<K: Sink>(
     sink: &mut K,
 ) -> Result<(), ChooseError>
     requires { IsFit want.now }
-    ensures { MatchResult result
-        (λ _. Answers (Some (request.LastPlan scope want.now)) (K.told sink.old) (K.told sink.new))
-        (Fails (Some (request.LastPlan scope want.now)) (K.told sink.old) (K.told sink.new)) }
+    ensures { Answers (request.LastPlan scope want.now) result (K.told sink.old) (K.told sink.new) }
 {
     match scope {
         Scope::Both => {
@@ -134,9 +82,7 @@ fn write_plan_alone<K: Sink>(
 /// Writes the line of the plan of most faults within this room.
 fn write_most<K: Sink>(alloc: Global, room: &Room, sink: &mut K) -> Result<(), ChooseError>
     requires { IsRoom room.now }
-    ensures { MatchResult result
-        (λ _. Answers (Some (request.Most room.now)) (K.told sink.old) (K.told sink.new))
-        (Fails (Some (request.Most room.now)) (K.told sink.old) (K.told sink.new)) }
+    ensures { Answers (request.Most room.now) result (K.told sink.old) (K.told sink.new) }
 {
     let plan = most_plan(alloc, room.nodes, room.bound, room.modulus)?;
     Ok(write_both_front(&Some(plan), sink)?)
@@ -145,15 +91,26 @@ fn write_most<K: Sink>(alloc: Global, room: &Room, sink: &mut K) -> Result<(), C
 /// Writes the text of that plan.
 fn write_most_plan<K: Sink>(alloc: Global, room: &Room, sink: &mut K) -> Result<(), ChooseError>
     requires { IsRoom room.now }
-    ensures { MatchResult result
-        (λ _. Answers (Some (request.MostPlan room.now)) (K.told sink.old) (K.told sink.new))
-        (Fails (Some (request.MostPlan room.now)) (K.told sink.old) (K.told sink.new)) }
+    ensures { Answers (request.MostPlan room.now) result (K.told sink.old) (K.told sink.new) }
 {
     let plan = most_plan(alloc, room.nodes, room.bound, room.modulus)?;
     Ok(write_both_plan(&Some(plan), sink)?)
 }
 
-/// Writes the line that says why there is no plan for these wants, and nothing where there is one.
+/// Writes what is asked for.
+fn write_answer<K: Sink>(alloc: Global, request: Request, sink: &mut K) -> Result<(), ChooseError>
+    requires { HasFitWant request }
+    ensures { Answers request result (K.told sink.old) (K.told sink.new) }
+{
+    match request {
+        Request::Front(scope, want) => write_lines(alloc, scope, &want, sink),
+        Request::LastPlan(scope, want) => write_plan_alone(alloc, scope, &want, sink),
+        Request::Most(room) => write_most(alloc, &room, sink),
+        Request::MostPlan(room) => write_most_plan(alloc, &room, sink),
+    }
+}
+
+/// Writes the line that says why there is no plan for these wants, and nothing if there is one.
 fn write_why<K: Sink>(
     alloc: Global,
     scope: Scope,
@@ -161,32 +118,27 @@ fn write_why<K: Sink>(
     sink: &mut K,
 ) -> Result<(), ChooseError>
     requires { IsFit want.now }
-    ensures { MatchResult result
-        (λ _. ExplainsWants scope want.now (K.told sink.old) (K.told sink.new))
-        (FailsOnWants scope want.now (K.told sink.old) (K.told sink.new)) }
+    ensures { ExplainsWants scope want.now result (K.told sink.old) (K.told sink.new) }
 {
     let shortage = shortage_of(alloc, scope, want)?;
     Ok(write_shortage(want, shortage, sink)?)
 }
 
-/// Where the words ask for a front and there is no plan, writes why: how many nodes its faults
-/// take, and how many faults its nodes tolerate. Else it writes nothing.
+/// If the words ask for a front and there is no plan, writes why: how many nodes its faults take,
+/// and how many faults its nodes tolerate. Else it writes nothing.
 ///
-/// `NoMemory` comes only where a front is asked for, or its last plan, and nothing was written.
-/// `WriteFault` comes only where the sink counted a fault; a prefix of the line was then taken.
+/// `NoMemory` comes only if a front is asked for, or its last plan, and nothing was written.
+/// `WriteFault` comes only if the sink counted a fault; a prefix of the line was then taken.
 /// `Usage` never comes.
 pub fn explain_none<K: Sink>(
     alloc: Global,
     words: &[String],
     sink: &mut K,
 ) -> Result<(), ChooseError>
-    ensures explains { MatchResult result
-        (λ _. Explains (request_of (map string_bytes words.now))
-        (K.told sink.old) (K.told sink.new))
-        (FailsToExplain (request_of (map string_bytes words.now))
-        (K.told sink.old) (K.told sink.new)) }
+    ensures explains { Explains (request_of (map string_bytes words.now)) result
+        (K.told sink.old) (K.told sink.new) }
 
-    // There is no plan for these wants just where there is none, whatever it counts by.
+    // There is no plan for these wants exactly if there is none, whatever it counts by.
     ensures modulus { ModulusDecidesNothing }
 {
     modulus_decides_nothing();
@@ -206,15 +158,14 @@ pub fn explain_none<K: Sink>(
 /// and `--version`, alone, ask for what they say.
 ///
 /// FAULTS is at most 85, MODULUS from 2 to 2^40, MOST_NODES and NODES from 1 to 256, and MOST_NODES
-/// 256 where it is left out. `Usage` comes exactly where the words ask for nothing; nothing was
-/// written then. `NoMemory` comes only where a plan is asked for, and nothing was written.
-/// `WriteFault` comes only where the sink counted a fault; a prefix of the answer was then taken.
+/// 256 if it is left out. `Usage` comes exactly if the words ask for nothing; nothing was written
+/// then. `NoMemory` comes only if a plan is asked for, and nothing was written. `WriteFault` comes
+/// only if the sink counted a fault; a prefix of the answer was then taken.
 pub fn choose<K: Sink>(alloc: Global, words: &[String], sink: &mut K) -> Result<(), ChooseError>
     // Which bytes were written: of a front, whose plans no accepted plan is better than, its lines
     // or the text of its last plan; or the line or the text of a plan of most faults.
-    ensures does { MatchResult result
-        (λ _. Answers (request_of (map string_bytes words.now)) (K.told sink.old) (K.told sink.new))
-        (Fails (request_of (map string_bytes words.now)) (K.told sink.old) (K.told sink.new)) }
+    ensures does { DoesAsked (map string_bytes words.now) result
+        (K.told sink.old) (K.told sink.new) }
 
     // And what is written of a plan is read as that plan.
     ensures read { TextsArePlans }
@@ -222,15 +173,10 @@ pub fn choose<K: Sink>(alloc: Global, words: &[String], sink: &mut K) -> Result<
 {
     texts_are_plans();
     pulse_texts_are_plans();
-    let Some(request) = request_of(words) else {
-        return Err(ChooseError::Usage);
-    };
-    match request {
-        Request::Help => Ok(write_help(sink)?),
-        Request::Version => Ok(write_version(sink)?),
-        Request::Front(scope, want) => write_lines(alloc, scope, &want, sink),
-        Request::LastPlan(scope, want) => write_plan_alone(alloc, scope, &want, sink),
-        Request::Most(room) => write_most(alloc, &room, sink),
-        Request::MostPlan(room) => write_most_plan(alloc, &room, sink),
+    match asked_by(words, request_of(words)) {
+        Asked::Help => Ok(put_all(sink, HELP)?),
+        Asked::Version => Ok(put_all(sink, b"choose 1.0\n")?),
+        Asked::Request(request) => write_answer(alloc, request, sink),
+        Asked::Nothing => Err(ProgramError::Usage),
     }
 }

@@ -23,7 +23,7 @@ fn has_less(plan: &Plan, others: &[Plan]) -> bool
     true
 }
 
-/// The plans, and behind them one more where it has a lesser bound than each of them.
+/// The plans, and after them one more if it has a lesser bound than each of them.
 fn with_next(plans: Vec<Plan>, plan: Option<Plan>) -> Result<Vec<Plan>, NoMemory>
     ensures { IfOk result (λ next. IsNext plans.items plan next.items) }
 {
@@ -38,11 +38,11 @@ fn with_next(plans: Vec<Plan>, plan: Option<Plan>) -> Result<Vec<Plan>, NoMemory
     Ok(next)
 }
 
-/// The front of nodes and bound of all accepted plans, of either version, that bear `f` faults or
-/// more and have at most `most` nodes: plans of version 2 that count by `c`, each next one with
-/// more nodes and a lesser bound. Each accepted plan that bears `f` faults with at most `most`
+/// The front of nodes and bound of all accepted plans, of either version, that tolerate `f` faults
+/// or more and have at most `most` nodes: plans of version 2 that count by `c`, each next one with
+/// more nodes and a lesser bound. Each accepted plan that tolerates `f` faults with at most `most`
 /// nodes, whatever it counts by, has at least the nodes and the bound of one of these; there are
-/// none exactly where there is no such plan. `f` is at most 85, `c` from 2 to 2^40, `most` at most
+/// none exactly if there is no such plan. `f` is at most 85, `c` from 2 to 2^40, `most` at most
 /// 256.
 pub fn front(alloc: Global, f: u64, c: u64, most: u64) -> Result<Vec<Plan>, NoMemory>
     requires faults { f ≤ 85 }

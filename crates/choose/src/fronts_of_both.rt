@@ -24,9 +24,9 @@ pub fn fewest_nodes(f: u64, c: u64) -> PulsePlan
 /// The front of nodes and bound of all accepted plans of both constructions that tolerate `f`
 /// faults or more and have at most `most` nodes: it is one plan, which counts by `c`, or none. Each
 /// accepted plan that tolerates `f` faults with at most `most` nodes, whatever it counts by, has at
-/// least its nodes and its bound; there is none exactly where there is no such plan. Where no fault
-/// is to be tolerated it is a plan of one node, of the boosting construction; else it is a pulse
-/// plan. `f` is at most 85, `c` from 2 to 2^40, `most` at most 256.
+/// least its nodes and its bound; there is none exactly if there is no such plan. If no fault is to
+/// be tolerated it is a plan of one node, of the boosting construction; else it is a pulse plan.
+/// `f` is at most 85, `c` from 2 to 2^40, `most` at most 256.
 pub fn front_of_both(alloc: Global, f: u64, c: u64, most: u64) -> Result<Option<AnyPlan>, NoMemory>
     requires faults { f ≤ 85 }
     requires modulus { (2 ≤ c) × (c ≤ 2 ^ 40) }

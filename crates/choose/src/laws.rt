@@ -16,7 +16,7 @@ pub fn pulse_texts_are_plans()
     ensures { PulseTextsArePlans }
 {}
 
-/// Whether a front has a plan hangs on no modulus: it has none exactly where no accepted plan of
+/// Whether a front has a plan depends on no modulus: it has none exactly if no accepted plan of
 /// those that are looked at, whatever it counts by, tolerates the faults within the nodes.
 pub fn modulus_decides_nothing()
     ensures { ModulusDecidesNothing }

@@ -27,7 +27,7 @@ fn faults_within(n: u64, t: u64) -> u64
 /// The plan that tolerates the most faults of all accepted plans of both constructions with at most
 /// `n` nodes and a bound of at most `t`. It counts by `c`; no such plan tolerates more, whatever it
 /// counts by, and none that tolerates as many within `n` nodes has fewer nodes or a lesser bound.
-/// Where it tolerates a fault it is a pulse plan, else a plan of one node of the boosting
+/// If it tolerates a fault it is a pulse plan, else a plan of one node of the boosting
 /// construction. `n` is from 1 to 256, `c` from 2 to 2^40.
 pub fn most_plan(alloc: Global, n: u64, t: u64, c: u64) -> Result<AnyPlan, NoMemory>
     requires nodes { (1 ≤ n) × (n ≤ 256) }

@@ -3,7 +3,7 @@
 ghost use Rattle.std.specs.Prelude.{◌≡◌, map, string_bytes, IfSome};
 ghost use Rattle.texts.specs.Numbers.{number_of};
 ghost use Rattle.plan_finder.specs.FindPart.{IsFit};
-ghost use Rattle.choose.specs.Requests.{want_with, want_by, asked_alone, search_of, request_of};
+ghost use Rattle.choose.specs.Requests.{want_with, want_by, search_of, request_of};
 ghost use Rattle.choose.specs.Requests.{room_with, room_by, within_of, IsRoom, HasFitWant};
 
 use edge_io::number;
@@ -32,10 +32,6 @@ pub struct Room {
 /// What is asked for.
 #[derive(Clone, Copy, Debug, PartialEq, Eq)]
 pub enum Request {
-    /// How the program is used.
-    Help,
-    /// Its name and version.
-    Version,
     /// The lines of a front for these wants.
     Front(Scope, Want),
     /// The text of the last plan of a front for these wants.
@@ -46,7 +42,7 @@ pub enum Request {
     MostPlan(Room),
 }
 
-/// The most nodes, where they are left out.
+/// The most nodes, if they are left out.
 const MOST_NODES: Option<u64> = Some(256);
 
 /// The wants with these numbers, if they keep the limits.
@@ -64,7 +60,7 @@ fn want_with(faults: u64, modulus: u64, most: u64) -> Option<Want>
     })
 }
 
-/// The same, where each of them is a number.
+/// The same, if each of them is a number.
 fn want_by(faults: Option<u64>, modulus: Option<u64>, most: Option<u64>) -> Option<Want>
     ensures value { result ≡ want_by faults modulus most }
     ensures fits { IfSome result IsFit }
@@ -81,20 +77,6 @@ fn wanted(faults: &str, modulus: &str, most: Option<u64>) -> Option<Want>
     ensures fits { IfSome result IsFit }
 {
     want_by(number(faults.as_bytes()), number(modulus.as_bytes()), most)
-}
-
-/// What a single word asks for.
-fn asked_alone(word: &str) -> Option<Request>
-    ensures value { result ≡ asked_alone word.now }
-    ensures fits { IfSome result HasFitWant }
-{
-    if word == "--help" {
-        Some(Request::Help)
-    } else if word == "--version" {
-        Some(Request::Version)
-    } else {
-        None
-    }
 }
 
 /// What words without a construction before them search.
@@ -155,7 +137,7 @@ fn room_by(nodes: &str, bound: &str, modulus: &str) -> Option<Room>
     room_with(nodes, bound, modulus)
 }
 
-/// What words behind `within` ask for.
+/// What words after `within` ask for.
 fn within_of(words: &[String]) -> Option<Request>
     ensures value { result ≡ within_of (map string_bytes words.now) }
     ensures fits { IfSome result HasFitWant }
@@ -176,15 +158,13 @@ fn within_of(words: &[String]) -> Option<Request>
     }
 }
 
-/// What these words ask for: None exactly where they ask for nothing.
+/// What these words ask for: None exactly if they ask for no plan.
 pub fn request_of(words: &[String]) -> Option<Request>
     ensures value { result ≡ request_of (map string_bytes words.now) }
     ensures fits { IfSome result HasFitWant }
 {
     match words {
-        [] => None,
-        [word] => asked_alone(word.as_str()),
-        [first, ..] => {
+        [first, _, ..] => {
             if first.as_str() == "boosting" {
                 search_of(Scope::Boosting, &words[1..])
             } else if first.as_str() == "within" {
@@ -193,5 +173,6 @@ pub fn request_of(words: &[String]) -> Option<Request>
                 search_of(Scope::Both, words)
             }
         }
+        _ => None,
     }
 }

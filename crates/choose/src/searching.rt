@@ -1,6 +1,6 @@
-//! Searches the plan of least bound. What stands below a level of `k` blocks has to bear so many
-//! faults that the blocks can share the level's, with a share of the nodes, and to count by the
-//! level's span; the least of such plans is searched in the same way.
+//! Searches the plan of least bound. What stands below a level of `k` blocks has to tolerate so
+//! many faults that the blocks can share the level's, with a share of the nodes, and to count by
+//! the level's span; the least of such plans is searched in the same way.
 
 ghost use Rattle.std.specs.Prelude.{◌≡◌, ◌+◌, ◌-◌, ◌*◌, ◌<◌, ◌≤◌, ◌^◌, [], IfOk};
 ghost use Rattle.construction.specs.Plans.{plan_nodes};
@@ -25,8 +25,8 @@ pub fn one_node(alloc: Global, c: u64) -> Result<Plan, NoMemory>
     }
 }
 
-/// The plan with a level of `k` blocks on top that bears `f` faults and counts by `c`, with no more
-/// spare nodes than it needs for them.
+/// The plan with a level of `k` blocks on top that tolerates `f` faults and counts by `c`, with no
+/// more spare nodes than it needs for them.
 fn topped(below: Plan, k: u64, f: u64, c: u64) -> Plan
     requires blocks { (3 ≤ k) × (k ≤ 16) }
     requires faults { f ≤ 85 }
@@ -40,7 +40,7 @@ fn topped(below: Plan, k: u64, f: u64, c: u64) -> Plan
     plan
 }
 
-/// The one of two plans that has the lesser bound, and the first where neither has.
+/// The one of two plans that has the lesser bound, and the first if neither has.
 fn lesser(known: Option<Plan>, other: Option<Plan>) -> Option<Plan>
     ensures { IsLesser known other result }
 {
@@ -59,8 +59,8 @@ fn lesser(known: Option<Plan>, other: Option<Plan>) -> Option<Plan>
     }
 }
 
-/// The plan of least bound of those that bear `f` faults with at most `n` nodes and a top level of
-/// `k` blocks, counting by `c`: None exactly where there is none.
+/// The plan of least bound of those that tolerate `f` faults with at most `n` nodes and a top level
+/// of `k` blocks, counting by `c`: None exactly if there is none.
 #[cycle(least)]
 fn least_with(alloc: Global, n: u64, f: u64, c: u64, k: u64) -> Result<Option<Plan>, NoMemory>
     requires blocks { (3 ≤ k) × (k ≤ 16) }
@@ -78,8 +78,8 @@ fn least_with(alloc: Global, n: u64, f: u64, c: u64, k: u64) -> Result<Option<Pl
     }
 }
 
-/// The plan of least bound of those that bear `f` faults with at most `n` nodes, counting by `c`:
-/// None exactly where there is none. It is one of version 2, and no plan has less, of either
+/// The plan of least bound of those that tolerate `f` faults with at most `n` nodes, counting by
+/// `c`: None exactly if there is none. It is one of version 2, and no plan has less, of either
 /// version, whatever it counts by.
 #[cycle(least)]
 pub fn least_plan(alloc: Global, n: u64, f: u64, c: u64) -> Result<Option<Plan>, NoMemory>

@@ -1,7 +1,8 @@
 //! Why there is no plan for some wants.
 
-ghost use Rattle.std.specs.Prelude.{◌≤◌, ◌+◌, ◌++◌, IfOk, MatchBool};
+ghost use Rattle.std.specs.Prelude.{◌≤◌, ◌+◌, IfOk, MatchBool};
 ghost use Rattle.texts.specs.Growth.{Puts};
+ghost use Rattle.edge_io.specs.Writing.{Writes};
 ghost use Rattle.plan_finder.specs.FindPart.{IsFit};
 ghost use Rattle.choose.specs.declared.requests.Scope.TheVariants as scope;
 ghost use Rattle.choose.specs.Shortages.{CanTolerate, AreFewest, IsMostOf, IsShortage};
@@ -9,7 +10,7 @@ ghost use Rattle.choose.specs.Shortages.{nodes_part, faults_part, shortage_text}
 
 use crate::requests::Scope;
 use crate::searching::least_plan;
-use edge_io::{Piece, Sink, WriteFault, put_pieces};
+use edge_io::{Piece, Sink, WriteFault, Writer};
 use plan_finder::Want;
 use std::alloc::Global;
 use sync_types::NoMemory;
@@ -17,7 +18,7 @@ use sync_types::NoMemory;
 /// What is wanted, and how far it can be had.
 #[derive(Clone, Copy, Debug, PartialEq, Eq)]
 pub struct Shortage {
-    /// How many nodes the faults take, None where no plan of at most 256 nodes tolerates them.
+    /// How many nodes the faults take, None if no plan of at most 256 nodes tolerates them.
     pub nodes: Option<u64>,
     /// How many faults the nodes tolerate.
     pub faults: u64,
@@ -87,7 +88,7 @@ fn shortage_of_both(want: &Want) -> Option<Shortage>
 }
 
 /// Why no accepted plan that is looked at meets the wants: how many nodes its faults take, and how
-/// many faults its nodes tolerate. None exactly where there is such a plan.
+/// many faults its nodes tolerate. None exactly if there is such a plan.
 pub fn shortage_of(alloc: Global, scope: Scope, want: &Want) -> Result<Option<Shortage>, NoMemory>
     requires { IsFit want.now }
     ensures { IfOk result (IsShortage scope want.now) }
@@ -98,56 +99,41 @@ pub fn shortage_of(alloc: Global, scope: Scope, want: &Want) -> Result<Option<Sh
     }
 }
 
-fn put_nodes<K: Sink>(sink: &mut K, faults: u64, nodes: Option<u64>) -> Result<(), WriteFault>
-    ensures { Puts result (nodes_part faults nodes) (K.told sink.old) (K.told sink.new) }
+/// Writes how many nodes the faults take.
+fn put_nodes<K: Sink>(writer: &mut Writer<'_, K>, faults: u64, nodes: Option<u64>)
+    ensures { Writes K.told (nodes_part faults nodes) writer.old writer.new }
 {
     match nodes {
-        Some(nodes) => put_pieces(
-            sink,
-            &[
-                Piece::Text(b"none: FAULTS "),
-                Piece::Number(faults),
-                Piece::Text(b" takes MOST_NODES of at least "),
-                Piece::Number(nodes),
-            ],
-        ),
-        None => put_pieces(
-            sink,
-            &[
-                Piece::Text(b"none: FAULTS "),
-                Piece::Number(faults),
-                Piece::Text(b" is more than any boosting plan of at most 256 nodes tolerates"),
-            ],
-        ),
+        Some(nodes) => writer.pieces(&[
+            Piece::Text(b"none: FAULTS "),
+            Piece::Number(faults),
+            Piece::Text(b" takes MOST_NODES of at least "),
+            Piece::Number(nodes),
+        ]),
+        None => writer.pieces(&[
+            Piece::Text(b"none: FAULTS "),
+            Piece::Number(faults),
+            Piece::Text(b" is more than any boosting plan of at most 256 nodes tolerates"),
+        ]),
     }
 }
 
-fn put_faults<K: Sink>(sink: &mut K, nodes: u64, faults: u64) -> Result<(), WriteFault>
-    ensures { Puts result (faults_part nodes faults) (K.told sink.old) (K.told sink.new) }
+/// Writes how many faults the nodes tolerate.
+fn put_faults<K: Sink>(writer: &mut Writer<'_, K>, nodes: u64, faults: u64)
+    ensures { Writes K.told (faults_part nodes faults) writer.old writer.new }
 {
-    put_pieces(
-        sink,
-        &[
-            Piece::Text(b"; MOST_NODES "),
-            Piece::Number(nodes),
-            Piece::Text(b" allows FAULTS of at most "),
-            Piece::Number(faults),
-            Piece::Text(b"\n"),
-        ],
-    )
+    writer.pieces(&[
+        Piece::Text(b"; MOST_NODES "),
+        Piece::Number(nodes),
+        Piece::Text(b" allows FAULTS of at most "),
+        Piece::Number(faults),
+        Piece::Text(b"\n"),
+    ]);
 }
 
-fn put_line<K: Sink>(sink: &mut K, want: &Want, short: Shortage) -> Result<(), WriteFault>
-    ensures { Puts result (nodes_part want.now.faults short.nodes
-        ++ faults_part want.now.most short.faults) (K.told sink.old) (K.told sink.new) }
-{
-    put_nodes(sink, want.faults, short.nodes)?;
-    put_faults(sink, want.most, short.faults)
-}
-
-/// Writes the line that says of what there is too little, and nothing where there is enough.
+/// Writes the line that says of what there is too little, and nothing if there is enough.
 ///
-/// `WriteFault` comes only where the sink counted a fault; a prefix of the line was then taken.
+/// `WriteFault` comes only if the sink counted a fault; a prefix of the line was then taken.
 pub fn write_shortage<K: Sink>(
     want: &Want,
     shortage: Option<Shortage>,
@@ -156,7 +142,12 @@ pub fn write_shortage<K: Sink>(
     ensures { Puts result (shortage_text want.now shortage) (K.told sink.old) (K.told sink.new) }
 {
     match shortage {
-        Some(short) => put_line(sink, want, short),
+        Some(short) => {
+            let mut writer = Writer::new(sink);
+            put_nodes(&mut writer, want.faults, short.nodes);
+            put_faults(&mut writer, want.most, short.faults);
+            writer.finish()
+        }
         None => Ok(()),
     }
 }

@@ -2,132 +2,116 @@
 
 ghost use Rattle.std.specs.List.{flat_map};
 ghost use Rattle.texts.specs.Growth.{Puts};
+ghost use Rattle.edge_io.specs.Writing.{Writes};
 ghost use Rattle.plan_numbers.specs.Numbers.{level_of};
 ghost use Rattle.choose.specs.FrontText.{numbers_part, base_part, level_part, levels_part};
 ghost use Rattle.choose.specs.FrontText.{plan_part};
 ghost use Rattle.choose.specs.FrontText.{front_line, front_text, last_plan_text};
-ghost use Rattle.choose.specs.HelpText.{help_text, version_text};
 
-use edge_io::{Gathered, Piece, Sink, WriteFault, put_all, put_pieces};
+use edge_io::{Piece, Sink, WriteFault, Writer, put_all};
 use plan_numbers::{LevelNums, Plan};
 use plan_reader::write_plan;
 
 /// The numbers of a plan.
-fn put_numbers<K: Sink>(sink: &mut K, plan: &Plan) -> Result<(), WriteFault>
-    ensures { Puts result (numbers_part plan.now) (K.told sink.old) (K.told sink.new) }
+fn put_numbers<K: Sink>(writer: &mut Writer<'_, K>, plan: &Plan)
+    ensures { Writes K.told (numbers_part plan.now) writer.old writer.new }
 {
-    put_pieces(
-        sink,
-        &[
-            Piece::Text(b"nodes "),
-            Piece::Number(u64::from(plan.nodes())),
-            Piece::Text(b" bound "),
-            Piece::Number(plan.bound()),
-            Piece::Text(b" bytes "),
-            Piece::Number(plan.bytes() as u64),
-            Piece::Text(b" levels "),
-            Piece::Number(plan.depth() as u64),
-            Piece::Text(b" "),
-        ],
-    )
+    writer.pieces(&[
+        Piece::Text(b"nodes "),
+        Piece::Number(u64::from(plan.nodes())),
+        Piece::Text(b" bound "),
+        Piece::Number(plan.bound()),
+        Piece::Text(b" bytes "),
+        Piece::Number(plan.bytes() as u64),
+        Piece::Text(b" levels "),
+        Piece::Number(plan.depth() as u64),
+        Piece::Text(b" "),
+    ]);
 }
 
 /// The first line of a plan, and that of its base.
-fn put_base<K: Sink>(sink: &mut K, plan: &Plan) -> Result<(), WriteFault>
-    ensures { Puts result (base_part plan.now) (K.told sink.old) (K.told sink.new) }
+fn put_base<K: Sink>(writer: &mut Writer<'_, K>, plan: &Plan)
+    ensures { Writes K.told (base_part plan.now) writer.old writer.new }
 {
-    put_pieces(
-        sink,
-        &[
-            Piece::Text(b"plan 2;base "),
-            Piece::Number(plan.base_modulus()),
-            Piece::Text(b";"),
-        ],
-    )
+    writer.pieces(&[
+        Piece::Text(b"plan 2;base "),
+        Piece::Number(plan.base_modulus()),
+        Piece::Text(b";"),
+    ]);
 }
 
-fn put_level<K: Sink>(sink: &mut K, nums: &LevelNums) -> Result<(), WriteFault>
-    ensures { Puts result (level_part (level_of nums.now)) (K.told sink.old) (K.told sink.new) }
+fn put_level<K: Sink>(writer: &mut Writer<'_, K>, nums: &LevelNums)
+    ensures { Writes K.told (level_part (level_of nums.now)) writer.old writer.new }
 {
-    put_pieces(
-        sink,
-        &[
-            Piece::Text(b"level "),
-            Piece::Number(u64::from(nums.blocks)),
-            Piece::Text(b" "),
-            Piece::Number(u64::from(nums.faults)),
-            Piece::Text(b" "),
-            Piece::Number(nums.modulus),
-            Piece::Text(b" spare "),
-            Piece::Number(u64::from(nums.spares)),
-            Piece::Text(b";"),
-        ],
-    )
+    writer.pieces(&[
+        Piece::Text(b"level "),
+        Piece::Number(u64::from(nums.blocks)),
+        Piece::Text(b" "),
+        Piece::Number(u64::from(nums.faults)),
+        Piece::Text(b" "),
+        Piece::Number(nums.modulus),
+        Piece::Text(b" spare "),
+        Piece::Number(u64::from(nums.spares)),
+        Piece::Text(b";"),
+    ]);
 }
 
-fn put_levels<K: Sink>(sink: &mut K, plan: &Plan) -> Result<(), WriteFault>
-    ensures { Puts result (levels_part plan.now) (K.told sink.old) (K.told sink.new) }
+fn put_levels<K: Sink>(writer: &mut Writer<'_, K>, plan: &Plan)
+    ensures { Writes K.told (levels_part plan.now) writer.old writer.new }
 {
     for i in 0..plan.depth() {
-        match put_level(sink, plan.level(i)) {
-            Ok(()) => {}
-            Err(WriteFault) => return Err(WriteFault),
-        }
+        put_level(writer, plan.level(i));
     }
-    Ok(())
 }
 
-fn put_plan<K: Sink>(sink: &mut K, plan: &Plan) -> Result<(), WriteFault>
-    ensures { Puts result (plan_part plan.now) (K.told sink.old) (K.told sink.new) }
+fn put_plan<K: Sink>(writer: &mut Writer<'_, K>, plan: &Plan)
+    ensures { Writes K.told (plan_part plan.now) writer.old writer.new }
 {
-    put_base(sink, plan)?;
-    put_levels(sink, plan)?;
-    put_all(sink, b"end\n")
+    put_base(writer, plan);
+    put_levels(writer, plan);
+    writer.text(b"end\n");
 }
 
-pub fn put_line<K: Sink>(sink: &mut K, plan: &Plan) -> Result<(), WriteFault>
-    ensures { Puts result (front_line plan.now) (K.told sink.old) (K.told sink.new) }
+pub fn put_line<K: Sink>(writer: &mut Writer<'_, K>, plan: &Plan)
+    ensures { Writes K.told (front_line plan.now) writer.old writer.new }
 {
-    put_numbers(sink, plan)?;
-    put_plan(sink, plan)
+    put_numbers(writer, plan);
+    put_plan(writer, plan);
 }
 
-fn put_lines<K: Sink>(sink: &mut K, plans: &[Plan]) -> Result<(), WriteFault>
-    ensures { Puts result (flat_map front_line plans.now) (K.told sink.old) (K.told sink.new) }
+fn put_lines<K: Sink>(writer: &mut Writer<'_, K>, plans: &[Plan])
+    ensures { Writes K.told (flat_map front_line plans.now) writer.old writer.new }
 {
     for i in 0..plans.len() {
-        match put_line(sink, &plans[i]) {
-            Ok(()) => {}
-            Err(WriteFault) => return Err(WriteFault),
-        }
+        put_line(writer, &plans[i]);
     }
-    Ok(())
 }
 
-fn put_front<K: Sink>(sink: &mut K, plans: &[Plan]) -> Result<(), WriteFault>
-    ensures { Puts result (front_text plans.now) (K.told sink.old) (K.told sink.new) }
+fn put_front<K: Sink>(writer: &mut Writer<'_, K>, plans: &[Plan])
+    ensures { Writes K.told (front_text plans.now) writer.old writer.new }
 {
     if plans.is_empty() {
-        return put_all(sink, b"none\n");
+        writer.text(b"none\n");
+    } else {
+        put_lines(writer, plans);
     }
-    put_lines(sink, plans)
 }
 
-/// Writes a line for each plan of a front, with its numbers, or `none` where there is none. It
-/// takes no memory, and is one write where the sink takes it whole.
+/// Writes a line for each plan of a front, with its numbers, or `none` if there is none. It takes
+/// no memory, and is one write if the sink takes it whole.
 ///
-/// `WriteFault` comes only where the sink counted a fault; a front of the text was then taken.
+/// `WriteFault` comes only if the sink counted a fault; a prefix of the text was then taken.
 pub fn write_front<K: Sink>(plans: &[Plan], sink: &mut K) -> Result<(), WriteFault>
     ensures { Puts result (front_text plans.now) (K.told sink.old) (K.told sink.new) }
 {
-    let mut lines = Gathered::new(sink);
-    let written = put_front(&mut lines, plans);
-    lines.finish(written)
+    let mut writer = Writer::new(sink);
+    put_front(&mut writer, plans);
+    writer.finish()
 }
 
-/// Writes the text of the last plan of a front, or `none` where there is none. It takes no memory.
+/// Writes the text of the last plan of a front, or `none` if there is none. It takes no memory.
 ///
-/// `WriteFault` comes only where the sink counted a fault; a front of the text was then taken.
+/// `WriteFault` comes only if the sink counted a fault; a prefix of the text was then taken.
 pub fn write_last_plan<K: Sink>(plans: &[Plan], sink: &mut K) -> Result<(), WriteFault>
     ensures { Puts result (last_plan_text plans.now) (K.told sink.old) (K.told sink.new) }
 {
@@ -135,34 +119,4 @@ pub fn write_last_plan<K: Sink>(plans: &[Plan], sink: &mut K) -> Result<(), Writ
         Some(plan) => write_plan(plan, 2, sink),
         None => put_all(sink, b"none\n"),
     }
-}
-
-/// Writes how the program is used.
-pub fn write_help<K: Sink>(sink: &mut K) -> Result<(), WriteFault>
-    ensures { Puts result help_text (K.told sink.old) (K.told sink.new) }
-{
-    put_pieces(
-        sink,
-        &[
-            Piece::Text(b"usage: choose [boosting] FAULTS MODULUS [MOST_NODES] [plan]\n"),
-            Piece::Text(b"       choose within NODES BOUND MODULUS [plan]\n"),
-            Piece::Text(b"Writes the front of nodes and bound of the plans that tolerate FAULTS\n"),
-            Piece::Text(b"faults or more (0 to 85), count by MODULUS (2 to 2^40) and have at\n"),
-            Piece::Text(b"most MOST_NODES nodes (1 to 256; left out 256): a line for each plan,\n"),
-            Piece::Text(b"with more nodes and a lesser bound than the one before, or none.\n"),
-            Piece::Text(b"boosting: of the plans of counterlab alone, not of pulselab.\n"),
-            Piece::Text(b"plan: the plan of the last line alone, in lines.\n"),
-            Piece::Text(
-                b"within: a plan that tolerates the most faults of all plans with at most\n",
-            ),
-            Piece::Text(b"NODES nodes (1 to 256) and a bound of at most BOUND rounds.\n"),
-        ],
-    )
-}
-
-/// Writes the program's name and version.
-pub fn write_version<K: Sink>(sink: &mut K) -> Result<(), WriteFault>
-    ensures { Puts result version_text (K.told sink.old) (K.told sink.new) }
-{
-    put_all(sink, b"choose 1.0\n")
 }

@@ -1,4 +1,4 @@
--- Every run with consensus decides, also where inputs change.
+-- Every run with consensus decides, also if inputs change.
 use Rattle.std.proofs.Common.{◌≡◌, ℕ, ◌+◌, ◌-◌, unwrap_or, refl, sym, ap, ◌∙◌, subst, arith}
 use Rattle.sync_types.specs.States.{State}
 use Rattle.construction.specs.Runs.{IsState}

@@ -1,32 +1,29 @@
 -- What is read of consensus is for the counter: values within their limits, an input of each node,
 -- and a modulus that is a multiple of a slot's length.
 use Rattle.std.proofs.Common.{◌≡◌, ℕ, ◌<◌, ◌≤◌, ◌%◌, Bool, true, false, List, [], ◌∷◌, length, All}
-use Rattle.std.proofs.Common.{Option, Some, None, Result, Ok, Err, refl, subst, ap, ap₂, ◌∙◌}
+use Rattle.std.proofs.Common.{Option, Some, None, Ok, Err, refl, subst, ap, ap₂, ◌∙◌}
 use Rattle.std.specs.Prelude.{⊤, IfOk, nat_lt, not, ◌==◌, if◌then◌else◌, codes}
 use Rattle.std.specs.List.{list_all}
 use Rattle.std.specs.Str.{bytes_eq}
-use Rattle.std.proofs.lemmas.Bool.{and_parts, eqb-true, eq-eqb, ltb-false, ltb-true}
-use Rattle.std.proofs.lemmas.List.Elements.{All-cons, All-nil}
+use Rattle.std.proofs.lemmas.Bool.{eqb-true, eq-eqb}
 use Rattle.texts.specs.Lines.{words_of}
-use Rattle.texts.specs.Shapes.{numbers_after}
+use Rattle.texts.specs.Shapes.{all_numbers_after}
 use Rattle.texts.specs.Parts.{Next, ends, refuses}
-use Rattle.texts.proofs.Parts.{After, skips_keep, part_keeps}
+use Rattle.texts.proofs.Parts.{After, goes_on_keeps, skipping_keeps}
 use Rattle.sync_types.specs.declared.answers.Rule.{Rule}
-use Rattle.sync_types.specs.declared.answers.Rule.TheVariants.{Form, Limit, Range, Slot}
+use Rattle.sync_types.specs.declared.answers.Rule.TheVariants.{Form, Range}
 use Rattle.construction.specs.Plans.{Plan}
 use Rattle.layer_laws.specs.Numbers.{Numbers, numbers_of}
 use Rattle.layer_laws.specs.CounterSlots.{slot_length}
 use Rattle.consensus_layer.specs.AgreeSaid.{AgreeSaid}
+use Rattle.consensus_layer.specs.PartLines.{head_tested, number_within}
 use Rattle.consensus_layer.specs.declared.agree_lines.AgreeStage.{AgreeStage}
 use Rattle.consensus_layer.specs.declared.agree_lines.AgreeStage.TheVariants.{Unread, Begun, Valued}
 use Rattle.consensus_layer.specs.declared.agree_lines.AgreeStage.TheVariants.{Given}
-use Rattle.consensus_layer.specs.AgreePart.{AgreeSoFar, nothing_read_over, values_tested}
-use Rattle.consensus_layer.specs.AgreePart.{numbers_behind, inputs_tested, inputs_in, goes_at}
-use Rattle.consensus_layer.specs.AgreePart.{goes_with, step_at, agree_step, part_over}
-use Rattle.consensus_layer.specs.AgreePart.{IsForNumbers, part_of, IsFor}
-
-abbrev IsValues : ℕ → Type 0
-IsValues values = (2 ≤ values) × (values ≤ 65536)
+use Rattle.consensus_layer.specs.AgreePart.{AgreeSoFar, nothing_read_over, inputs_tested}
+use Rattle.consensus_layer.specs.AgreePart.{inputs_in, at_stage, with_inputs, step_at, agree_step}
+use Rattle.consensus_layer.specs.AgreePart.{part_over, IsForNumbers, part_of, IsFor}
+use Rattle.consensus_layer.proofs.PartLines.{head_fits, IsWithin, is_within, all_below}
 
 abbrev IsWhole : Numbers → Type 0
 IsWhole numbers = numbers.modulus % slot_length numbers.faults ≡ 0
@@ -35,13 +32,6 @@ IsWhole numbers = numbers.modulus % slot_length numbers.faults ≡ 0
 
 abbrev AreInputs : (values nodes : ℕ) → List ℕ → Type 0
 AreInputs values nodes inputs = (length inputs ≡ nodes) × All (λ a. a < values) inputs
-
-all_below : (values : ℕ) (inputs : List ℕ) → list_all (λ a. nat_lt a values) inputs ≡ true
-    → All (λ a. a < values) inputs
-all_below values [] e = All-nil (λ a. a < values)
-all_below values (a ∷ inputs) e =
-    let p = and_parts (nat_lt a values) (list_all (λ b. nat_lt b values) inputs) e in
-    All-cons (λ b. b < values) a inputs (ltb-true a values p.0) (all_below values inputs p.1)
 
 inputs_by : (values nodes : ℕ) (inputs : List ℕ) (many below : Bool)
     → (length inputs == nodes) ≡ many → list_all (λ a. nat_lt a values) inputs ≡ below
@@ -61,7 +51,7 @@ tested values nodes (Some inputs) =
 
 -- what is read of a line with as many numbers as there are nodes
 module _ (values nodes : ℕ) (line inputs : List ℕ)
-    (is : numbers_behind (codes "inputs") (words_of line) ≡ Some inputs)
+    (is : all_numbers_after (codes "inputs") (words_of line) ≡ Some inputs)
     (size : length inputs ≡ nodes)
   where
     by_below : (below : Bool) → list_all (λ a. nat_lt a values) inputs ≡ below
@@ -83,12 +73,12 @@ module _ (values nodes : ℕ) (line inputs : List ℕ)
 
 -- ---- line by line
 
--- what holds behind the lines of a stage
+-- what holds after the lines of a stage
 abbrev IsStage : Numbers → AgreeStage → List ℕ → Type 0
 IsStage numbers Unread inputs = ⊤
 IsStage numbers Begun inputs = IsWhole numbers
-IsStage numbers (Valued values) inputs = IsWhole numbers × IsValues values
-IsStage numbers (Given values) inputs = IsWhole numbers × IsValues values
+IsStage numbers (Valued values) inputs = IsWhole numbers × IsWithin 2 65536 values
+IsStage numbers (Given values) inputs = IsWhole numbers × IsWithin 2 65536 values
     × AreInputs values numbers.nodes inputs
 
 record FitSoFar (numbers : Numbers) (s : AgreeSoFar) : Type 0 where
@@ -100,35 +90,18 @@ module _ (numbers : Numbers) where
   abbrev Goes : Next AgreeSoFar AgreeSaid Rule → Type 0
   Goes next = After (FitSoFar numbers) (IsForNumbers numbers) next
 
-  headed : (s : AgreeSoFar) (is whole : Bool) → s.whole ≡ whole → FitSoFar numbers s
-      → Goes (goes_at s (if is then (if whole then Ok Begun else Err Slot) else Err Form))
-  headed s false whole e fit = tt
-  headed s true false e fit = tt
-  headed s true true e fit = record { nodes = fit.nodes; whole = fit.whole; stage = fit.whole e }
+  valued : (s : AgreeSoFar) → s.stage ≡ Begun → FitSoFar numbers s → (values : ℕ)
+      → IsWithin 2 65536 values → FitSoFar numbers (at_stage s (Valued values))
+  valued s at fit values within = record {
+    nodes = fit.nodes;
+    whole = fit.whole;
+    stage = (subst (λ stage. IsStage numbers stage s.inputs) at fit.stage, within);
+  }
 
-  valued : (s : AgreeSoFar) (read : Option (List ℕ)) → s.stage ≡ Begun → FitSoFar numbers s
-      → Goes (goes_at s (values_tested read))
-  valued s None at fit = tt
-  valued s (Some []) at fit = tt
-  valued s (Some (v ∷ w ∷ more)) at fit = tt
-  valued s (Some (v ∷ [])) at fit = by (nat_lt 65536 v) (nat_lt v 2) refl refl where
-    by : (large small : Bool) → nat_lt 65536 v ≡ large → nat_lt v 2 ≡ small
-        → Goes (goes_at s (if large then Err Limit else if small then Err Range else Ok (Valued v)))
-    by true small e e' = tt
-    by false true e e' = tt
-    by false false e e' = record {
-      nodes = fit.nodes;
-      whole = fit.whole;
-      stage = (
-        subst (λ stage. IsStage numbers stage s.inputs) at fit.stage,
-        (ltb-false v 2 e', ltb-false 65536 v e),
-      );
-    }
-
-  given : (s : AgreeSoFar) (values : ℕ) (read : Result (List ℕ) Rule) → s.stage ≡ Valued values
-      → FitSoFar numbers s → IfOk read (AreInputs values s.nodes) → Goes (goes_with values s read)
-  given s values (Err rule) at fit are = tt
-  given s values (Ok inputs) at fit are =
+  given : (s : AgreeSoFar) (values : ℕ) → s.stage ≡ Valued values → FitSoFar numbers s
+      → (inputs : List ℕ) → AreInputs values s.nodes inputs
+      → FitSoFar numbers (with_inputs values s inputs)
+  given s values at fit inputs are =
       let before = subst (λ stage. IsStage numbers stage s.inputs) at fit.stage in
       record {
         nodes = fit.nodes;
@@ -145,11 +118,21 @@ module _ (numbers : Numbers) where
 
   stepped : (stage : AgreeStage) (s : AgreeSoFar) (line : List ℕ) → s.stage ≡ stage
       → FitSoFar numbers s → Goes (step_at stage s line)
-  stepped Unread s line at fit = headed s (bytes_eq line (codes "agree 1")) s.whole refl fit
-  stepped Begun s line at fit = valued s (numbers_after (codes "values") 1 (words_of line)) at fit
+  stepped Unread s line at fit =
+      goes_on_keeps (FitSoFar numbers) (IsForNumbers numbers) (λ _. at_stage s Begun)
+      (λ _. s.whole ≡ true) (head_tested (codes "agree 1") s.whole line)
+      (head_fits (codes "agree 1") s.whole line)
+      (λ _ e. record { nodes = fit.nodes; whole = fit.whole; stage = fit.whole e })
+  stepped Begun s line at fit =
+      goes_on_keeps (FitSoFar numbers) (IsForNumbers numbers)
+      (λ values. at_stage s (Valued values)) (IsWithin 2 65536)
+      (number_within (codes "values") 2 65536 line) (is_within (codes "values") 2 65536 line)
+      (valued s at fit)
   stepped (Valued values) s line at fit =
-      given s values (inputs_in values s.nodes line) at fit
-      (tested values s.nodes (numbers_behind (codes "inputs") (words_of line)))
+      goes_on_keeps (FitSoFar numbers) (IsForNumbers numbers) (with_inputs values s)
+      (AreInputs values s.nodes) (inputs_in values s.nodes line)
+      (tested values s.nodes (all_numbers_after (codes "inputs") (words_of line)))
+      (given s values at fit)
   stepped (Given values) s line at fit = ended s values (bytes_eq line (codes "end")) at fit
 
   begins : FitSoFar numbers (nothing_read_over numbers)
@@ -163,9 +146,8 @@ module _ (numbers : Numbers) where
 pub inputs_fit_over : (numbers : Numbers) (number : ℕ) (lines : List (List ℕ))
     → IfOk (part_over numbers number lines) (λ found. IsForNumbers numbers found.value)
 inputs_fit_over numbers number lines =
-    part_keeps _ Form (FitSoFar numbers) (IsForNumbers numbers)
-    (λ s line fit. skips_keep agree_step Form (FitSoFar numbers) (IsForNumbers numbers) s line fit
-    (stepped numbers s.stage s line refl fit))
+    skipping_keeps agree_step Form (FitSoFar numbers) (IsForNumbers numbers)
+    (λ s line fit. stepped numbers s.stage s line refl fit)
     lines (nothing_read_over numbers) 0 number (begins numbers)
 
 pub inputs_fit : (plan : Plan) (number : ℕ) (lines : List (List ℕ))

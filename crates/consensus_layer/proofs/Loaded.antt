@@ -21,7 +21,7 @@ use Rattle.layer_laws.proofs.CounterSlots.{counts_of, slots_agree_over}
 use Rattle.consensus_layer.specs.Agreeing.{loaded, turned, agree_step, IsAgreeing}
 use Rattle.consensus_layer.specs.Agreeing.{SlotDecidesOver}
 
--- before the last turn the register agrees
+-- before the last round the register agrees
 agrees_on : (n f i v input output x : ℕ) (heard : List State) → output % slot_length f ≡ x
     → x + 1 < slot_length f
     → (agree_step n f i v input output heard).register ≡ agreed_in_turn n f i v x heard
@@ -32,7 +32,7 @@ agrees_on n f i v input output x heard rest lt =
     (ne_eqb (turn + 1) (slot_length f) (λ e. omega (arith, e, rest, lt)))
     ∙ ap (λ y. agreed_in_turn n f i v y heard) rest
 
--- in the last turn the result is decided and the input loaded
+-- in the last round the result is decided and the input loaded
 module _ (n f i v input output : ℕ) (heard : List State)
     (rest : output % slot_length f + 1 ≡ slot_length f) where
   loads : (agree_step n f i v input output heard).register ≡ loaded input

@@ -1,5 +1,5 @@
--- A layer of consensus has one slot length: behind the last turn of a slot its register is not
--- marked, and behind that turn of a longer slot it is.
+-- A layer of consensus has one slot length: after the last round of a slot its register is not
+-- marked, and after that round of a longer slot it is.
 use Rattle.std.proofs.Common.{◌≡◌, ℕ, ◌+◌, ◌*◌, ◌/◌, ◌%◌, ◌<◌, Bool, true, false, List, [], sym, ap}
 use Rattle.std.proofs.Common.{◌∙◌, ⊎_elim, arith}
 use Rattle.std.specs.Prelude.{slice_index, slice_index_or}

@@ -18,7 +18,7 @@ use Rattle.construction.specs.Steps.{state_of}
 use Rattle.phase_king.proofs.Closed.{infinite_stays, zero_closed, one_closed, two_closed}
 use Rattle.phase_king.proofs.Closed.{marked_stays}
 use Rattle.counter_core.specs.HeardRegisters.{RegisterHeard, heard_at}
-use Rattle.counter_core.specs.Heeding.{HearsTruth, HeedsOnly}
+use Rattle.counter_core.specs.Heeding.{HearsTruth, DependsOnlyOn}
 use Rattle.counter_core.proofs.ListsAndPlaces.{places_of_ids}
 use Rattle.counter_core.proofs.Quorum.{quorum_is_least}
 use Rattle.layer_laws.specs.CounterSlots.{agreed}
@@ -119,7 +119,7 @@ module _ (h : RegisterHeard) (faulty : List ℕ) (v : ℕ) (quorum : 3 * h.fault
           most_have (length h.states) h.faults (map value heard) own long quorum
           (omega (arith, enough, at_least own))
 
-    -- two lists give one register where the instruction by their values is one
+    -- two lists give one register if the instruction by their values is one
     through : (kind king : ℕ) (heard told : List State) → HearsTruth faulty v h.states heard
         → HearsTruth faulty v h.states told
         → by kind king (map value heard) ≡ by kind king (map value told)
@@ -147,7 +147,7 @@ module _ (h : RegisterHeard) (faulty : List ℕ) (v : ℕ) (quorum : 3 * h.fault
       same = true_count faulty h own
 
       zero_shut : (own ≡ None) ⊎ ((need ≤ same) ⊎ (same + length faulty < need))
-          → HeedsOnly (step 0 king) faulty v h.states from to
+          → DependsOnlyOn (step 0 king) faulty v h.states from to
       zero_shut (inl none) heard told first second alike = through 0 king heard told first second
           (infinite_stays (length h.states) h.faults (λ a. a) (heard_at h v) (map value heard)
           (map value told) king none
@@ -157,16 +157,16 @@ module _ (h : RegisterHeard) (faulty : List ℕ) (v : ℕ) (quorum : 3 * h.fault
           (zero_closed (length h.states) h.faults (λ a. a) (heard_at h v) (map value heard)
           (map value told) king (tests heard told first second need own shut))
 
-      one_shut : need ≤ same → HeedsOnly (step 1 king) faulty v h.states from to
+      one_shut : need ≤ same → DependsOnlyOn (step 1 king) faulty v h.states from to
       one_shut enough heard told first second alike = through 1 king heard told first second
           (one_closed (length h.states) h.faults (λ a. a) (heard_at h v) (map value heard)
           (map value told) king (tests heard told first second need own (inl enough))
           (least_own heard first own enough ∙ sym (least_own told second own enough)))
 
-      -- the instructions of kinds 0 and 1, where no lie can change a count
+      -- the instructions of kinds 0 and 1, if no lie can change a count
       pub counts_shut : (kind : ℕ) → kind ≤ 1
           → (need ≤ same) ⊎ ((kind ≡ 0) × ((own ≡ None) ⊎ (same + length faulty < need)))
-          → HeedsOnly (step kind king) faulty v h.states from to
+          → DependsOnlyOn (step kind king) faulty v h.states from to
       counts_shut zero le (inl enough) = zero_shut (inr (inl enough))
       counts_shut zero le (inr (is, inl none)) = zero_shut (inl none)
       counts_shut zero le (inr (is, inr few)) = zero_shut (inr (inr few))
@@ -174,9 +174,9 @@ module _ (h : RegisterHeard) (faulty : List ℕ) (v : ℕ) (quorum : 3 * h.fault
       counts_shut (suc zero) le (inr other) = absurd (omega (arith, other.0))
       counts_shut (suc (suc kind)) le other = absurd (omega arith)
 
-      -- that of kind 2, where the own value is finite and marked
+      -- that of kind 2, if the own value is finite and marked
       marked_shut : (z : ℕ) × (heard_at h v ≡ locked_at z)
-          → HeedsOnly (step 2 king) faulty v h.states from to
+          → DependsOnlyOn (step 2 king) faulty v h.states from to
       marked_shut (z, is) heard told first second alike =
           let finite = ap (λ (r : Reg). r.a) is in
           let marked = ap (λ (r : Reg). r.d) is in
@@ -186,10 +186,10 @@ module _ (h : RegisterHeard) (faulty : List ℕ) (v : ℕ) (quorum : 3 * h.fault
           ∙ sym (marked_stays (length h.states) h.faults (λ a. a) (heard_at h v)
           (map value told) (map value heard) king z finite marked))
 
-      -- and else, where what is heard of the king hangs on these lies
+      -- and else, if what is heard of the king depends on these lies
       pub king_shut : king < length h.states
-          → HeedsOnly (λ heard. state_of heard king) faulty v h.states from to
-          → HeedsOnly (step 2 king) faulty v h.states from to
+          → DependsOnlyOn (λ heard. state_of heard king) faulty v h.states from to
+          → DependsOnlyOn (step 2 king) faulty v h.states from to
       king_shut lt kings heard told first second alike =
           through 2 king heard told first second
           (two_closed (length h.states) h.faults (λ a. a) (heard_at h v) (map value heard)
@@ -198,13 +198,13 @@ module _ (h : RegisterHeard) (faulty : List ℕ) (v : ℕ) (quorum : 3 * h.fault
           ∙ sym (at told second king lt))))
 
       own_king : king < length h.states → king ≡ v
-          → HeedsOnly (step 2 king) faulty v h.states from to
+          → DependsOnlyOn (step 2 king) faulty v h.states from to
       own_king lt is = king_shut lt (λ heard told first second alike.
           ap (state_of heard) is ∙ (first.own ∙ (sym second.own ∙ sym (ap (state_of told) is))))
 
       -- or the node is its own king
       pub no_other : king < length h.states
           → ((z : ℕ) × (heard_at h v ≡ locked_at z)) ⊎ (king ≡ v)
-          → HeedsOnly (step 2 king) faulty v h.states from to
+          → DependsOnlyOn (step 2 king) faulty v h.states from to
       no_other lt (inl locked) = marked_shut locked
       no_other lt (inr same) = own_king lt same

@@ -4,14 +4,15 @@ use Rattle.std.specs.Prelude.{All, Option, Some, None, Result, Ok, Err, if◌the
 use Rattle.std.specs.List.{list_all}
 use Rattle.std.specs.Str.{bytes_eq}
 use Rattle.texts.specs.Lines.{words_of}
-use Rattle.texts.specs.Shapes.{numbers_of, numbers_after}
-use Rattle.texts.specs.Parts.{Next, goes, ends, refuses, with_skips, Found, At, part_from}
+use Rattle.texts.specs.Shapes.{all_numbers_after}
+use Rattle.texts.specs.Parts.{Next, ends, refuses, goes_on, with_skips, Found, At, part_from}
 use Rattle.sync_types.specs.declared.answers.Rule.{Rule}
-use Rattle.sync_types.specs.declared.answers.Rule.TheVariants.{Form, Limit, Range, Slot}
+use Rattle.sync_types.specs.declared.answers.Rule.TheVariants.{Form, Range}
 use Rattle.construction.specs.Plans.{Plan}
 use Rattle.layer_laws.specs.Numbers.{Numbers, numbers_of as numbers_of_plan}
 use Rattle.layer_laws.specs.CounterSlots.{slot_length}
 use Rattle.consensus_layer.specs.AgreeSaid.{AgreeSaid}
+use Rattle.consensus_layer.specs.PartLines.{head_tested, number_within}
 use Rattle.consensus_layer.specs.declared.agree_lines.AgreeStage.{AgreeStage}
 use Rattle.consensus_layer.specs.declared.agree_lines.AgreeStage.TheVariants.{Unread, Begun, Valued}
 use Rattle.consensus_layer.specs.declared.agree_lines.AgreeStage.TheVariants.{Given}
@@ -33,22 +34,6 @@ nothing_read_over numbers = record {
   inputs = [];
 }
 
--- the stage behind `agree 1`, where the modulus is a multiple of a slot's length
-abbrev pub behind_head : (whole : Bool) → List ℕ → Result AgreeStage Rule
-behind_head whole line =
-    if bytes_eq line (codes "agree 1") then (if whole then Ok Begun else Err Slot) else Err Form
-
-abbrev pub values_tested : Option (List ℕ) → Result AgreeStage Rule
-values_tested (Some (v ∷ [])) =
-    if nat_lt 65536 v then Err Limit else if nat_lt v 2 then Err Range else Ok (Valued v)
-values_tested other = Err Form
-
--- the numbers behind a key, as many as there are words
-abbrev pub numbers_behind : List ℕ → List (List ℕ) → Option (List ℕ)
-numbers_behind key [] = None
-numbers_behind key (word ∷ words) =
-    if bytes_eq word key then numbers_of (length words) words else None
-
 -- the inputs of so many nodes, or the first rule that the line's numbers fail
 abbrev pub inputs_tested : (values nodes : ℕ) → Option (List ℕ) → Result (List ℕ) Rule
 inputs_tested values nodes None = Err Form
@@ -60,25 +45,23 @@ inputs_tested values nodes (Some inputs) =
 -- `inputs a0 a1 ..`
 abbrev pub inputs_in : (values nodes : ℕ) → List ℕ → Result (List ℕ) Rule
 inputs_in values nodes line =
-    inputs_tested values nodes (numbers_behind (codes "inputs") (words_of line))
+    inputs_tested values nodes (all_numbers_after (codes "inputs") (words_of line))
 
--- the part goes on at a stage, or the line is refused
-abbrev pub goes_at : AgreeSoFar → Result AgreeStage Rule → Next AgreeSoFar AgreeSaid Rule
-goes_at s (Ok stage) = goes (record s { stage = stage })
-goes_at s (Err rule) = refuses rule
+-- the part at a stage
+abbrev pub at_stage : AgreeSoFar → AgreeStage → AgreeSoFar
+at_stage s stage = record s { stage = stage }
 
--- the part goes on with these inputs, or the line is refused
-abbrev pub goes_with : (values : ℕ) → AgreeSoFar → Result (List ℕ) Rule
-    → Next AgreeSoFar AgreeSaid Rule
-goes_with values s (Ok inputs) = goes (record s { stage = Given values; inputs = inputs })
-goes_with values s (Err rule) = refuses rule
+-- the part with the inputs, after which nothing but its end is left
+abbrev pub with_inputs : (values : ℕ) → AgreeSoFar → List ℕ → AgreeSoFar
+with_inputs values s inputs = record s { stage = Given values; inputs = inputs }
 
--- a line behind those that were read
+-- a line after those that were read
 abbrev pub step_at : AgreeStage → AgreeSoFar → List ℕ → Next AgreeSoFar AgreeSaid Rule
-step_at Unread s line = goes_at s (behind_head s.whole line)
+step_at Unread s line =
+    goes_on (λ _. at_stage s Begun) (head_tested (codes "agree 1") s.whole line)
 step_at Begun s line =
-    goes_at s (values_tested (numbers_after (codes "values") 1 (words_of line)))
-step_at (Valued values) s line = goes_with values s (inputs_in values s.nodes line)
+    goes_on (λ values. at_stage s (Valued values)) (number_within (codes "values") 2 65536 line)
+step_at (Valued values) s line = goes_on (with_inputs values s) (inputs_in values s.nodes line)
 step_at (Given values) s line =
     if bytes_eq line (codes "end") then ends (record { values = values; inputs = s.inputs })
     else refuses Form
@@ -86,9 +69,9 @@ step_at (Given values) s line =
 abbrev pub agree_step : AgreeSoFar → List ℕ → Next AgreeSoFar AgreeSaid Rule
 agree_step s line = step_at s.stage s line
 
--- The agree part at the front of these lines, of which the first has that number, for a counter of
--- these numbers: what it says, how many lines it took through `end`, and the lines behind; or the
--- first line that fails, with the first rule that it fails.
+-- The agree part at the beginning of these lines, of which the first has that number, for a counter
+-- of these numbers: what it says, how many lines it took through `end`, and the lines after it; or
+-- the first line that fails, with the first rule that it fails.
 abbrev pub part_over : Numbers → (number : ℕ) → List (List ℕ) → Result (Found AgreeSaid) (At Rule)
 part_over numbers number lines =
     part_from (with_skips agree_step Form) Form (nothing_read_over numbers) 0 number lines

@@ -23,13 +23,13 @@ pub record Agreeing : Type 0 where
   pub register : Reg
   pub decided : Option ℕ
 
--- after a turn, by its result: in the last one the result is decided and the input loaded
+-- after a round, by its result: in the last one the result is decided and the input loaded
 abbrev pub turned : (last : Bool) (input : ℕ) (result : Reg) → Agreeing
 turned true input result = record { register = loaded input; decided = result.a }
 turned false input result = record { register = result; decided = None }
 
--- The round of node v on register i, over n nodes of which f may be faulty. The output tells the
--- turn.
+-- The round of node v on register i, over n nodes of which f may be faulty. The output tells which
+-- round of a slot it is.
 abbrev pub agree_step : (n f i v input output : ℕ) (heard : List State) → Agreeing
 agree_step n f i v input output heard =
     let turn = output % slot_length f in
@@ -60,7 +60,7 @@ input_in layer input first run t v =
     input v (layer.begun (first + t) (kept_of layer (scene run t) v))
 
 -- All correct nodes decide one value in the last round of the slot that begins in configuration t.
--- It is the common input of the round before, where they had one.
+-- It is the common input of the round before, if they had one.
 pub record SlotDecidesOver {Kept : Type 0} (counter : Meaning) (layer : Layer Kept)
     (input : ℕ → Kept → ℕ) (faulty : List ℕ) (first : ℕ) (run : List (Scene Kept)) (before : ℕ)
     : Type 0 where
@@ -70,12 +70,3 @@ pub record SlotDecidesOver {Kept : Type 0} (counter : Meaning) (layer : Layer Ke
   pub valid : (common : ℕ)
       → ((v : ℕ) → v < counter.nodes → is_in faulty v ≡ false
       → input_in layer input first run before v ≡ common) → value ≡ common
-
--- those over the counter of a plan
-module _ {Kept : Type 0} (plan : Plan) (layer : Layer Kept) (input : ℕ → Kept → ℕ) where
-  abbrev pub NodeDecides : (first : ℕ) (run : List (Scene Kept)) (t v value : ℕ) → Type 0
-  NodeDecides = NodeDecidesOver (plan_meaning plan) layer input
-
-  abbrev pub SlotDecides : (faulty : List ℕ) (first : ℕ) (run : List (Scene Kept)) (before : ℕ)
-      → Type 0
-  SlotDecides = SlotDecidesOver (plan_meaning plan) layer input

@@ -50,7 +50,7 @@ abbrev pub AgreeRunOver : (counter : Meaning) (is_state : (v : ℕ) → State �
 AgreeRunOver counter is_state values inputs =
     LayerRun counter is_state (agree_layer_over (numbers_in counter) values inputs)
 
--- The decisions of all correct nodes are one, which is their common input where they have one.
+-- The decisions of all correct nodes are one, which is their common input if they have one.
 pub record OneDecisionOver (counter : Meaning) (inputs : List ℕ) (faulty : List ℕ)
     (s : Scene ℕ) : Type 0 where
   pub value : ℕ
@@ -81,9 +81,6 @@ module _ (plan : Plan) where
   abbrev pub AgreeRun : (values : ℕ) (inputs : List ℕ) (faulty : List ℕ) (first : ℕ)
       (run : List (Scene ℕ)) → Type 0
   AgreeRun = AgreeRunOver (plan_meaning plan) (IsState plan)
-
-  abbrev pub OneDecision : (inputs : List ℕ) (faulty : List ℕ) → Scene ℕ → Type 0
-  OneDecision = OneDecisionOver (plan_meaning plan)
 
   abbrev pub Decides : (inputs : List ℕ) (faulty : List ℕ) (run : List (Scene ℕ)) → Type 0
   Decides = DecidesOver (plan_meaning plan)

@@ -21,8 +21,8 @@ pub record Noted : Type 0 where
   pub round : ℕ
   pub decision : ℕ
 
--- The layer of consensus, in which node v has this input in round t. Where a round begins, each
--- node notes its number.
+-- The layer of consensus, in which node v has this input in round t. When a round begins, each node
+-- notes its number.
 abbrev pub changing_layer_over : Numbers → (values : ℕ) → (input : (v t : ℕ) → ℕ) → Layer Noted
 changing_layer_over numbers values input = record {
   nodes = numbers.nodes;
@@ -49,8 +49,8 @@ abbrev pub changing_layer : Plan → (values : ℕ) → (input : (v t : ℕ) →
 changing_layer plan = changing_layer_over (numbers_of plan)
 
 -- The slot that begins in configuration t of a run, whose rounds are numbered from `first` on, ends
--- with one decision of all correct nodes. It is their common input of the round before the slot,
--- where they had one.
+-- with one decision of all correct nodes. It is their common input of the round before the slot, if
+-- they had one.
 pub record DecidesOneOver (counter : Meaning) (values : ℕ) (input : (v t : ℕ) → ℕ)
     (faulty : List ℕ) (first : ℕ) (run : List (Scene Noted)) (t : ℕ) : Type 0 where
   pub value : ℕ

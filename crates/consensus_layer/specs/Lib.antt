@@ -4,9 +4,8 @@ pub mod Agreements
 pub mod AgreementsSeen
 pub mod AgreeLaws
 pub mod AgreeSaid
+pub mod PartLines
 pub mod AgreePart
-pub mod AgreeRefusals
 pub mod AgreeAnswers
-pub mod InputAnswers
 pub mod ChangingInputs
 pub mod AgreeTexts

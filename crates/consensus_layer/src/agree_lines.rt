@@ -1,12 +1,11 @@
-ghost use Rattle.std.specs.Prelude.{◌≡◌, codes};
-ghost use Rattle.texts.specs.Shapes.{numbers_after};
-ghost use Rattle.texts.specs.Lines.{words_of};
-ghost use Rattle.consensus_layer.specs.AgreePart.{nothing_read_over, behind_head, values_tested};
+ghost use Rattle.std.specs.Prelude.{◌≡◌};
+ghost use Rattle.consensus_layer.specs.AgreePart.{nothing_read_over};
 
 use crate::agree_parts::AgreePart;
 use crate::agreeing::slot_length;
 use crate::input_lines::read_inputs;
-use edge_io::{LineReader, TakeError, numbers_after};
+use crate::part_lines::{head_tested, number_within};
+use edge_io::{LineReader, TakeError};
 use layer_laws::CounterNumbers;
 use std::alloc::Global;
 use std::marker::Model;
@@ -25,7 +24,7 @@ pub enum AgreeStage {
     Begun,
     /// Its line of values: how many there are.
     Valued(u64),
-    /// Its line of inputs, behind that of values.
+    /// Its line of inputs, after that of values.
     Given(u64),
 }
 
@@ -50,36 +49,6 @@ impl Model for AgreeLines {
       stage = l.stage;
       inputs = l.inputs.items;
     } };
-}
-
-/// The stage behind the first line, where the modulus is a multiple of a slot's length.
-fn behind_head(whole: bool, line: &[u8]) -> Result<AgreeStage, Rule>
-    ensures { result ≡ behind_head whole line.now }
-{
-    if line != b"agree 1".as_slice() {
-        return Err(Rule::Form);
-    }
-    if !whole {
-        return Err(Rule::Slot);
-    }
-    Ok(AgreeStage::Begun)
-}
-
-/// The stage behind a line of values.
-fn behind_values(line: &[u8]) -> Result<AgreeStage, Rule>
-    ensures { result ≡ values_tested (numbers_after (codes "values") 1 (words_of line.now)) }
-{
-    let Some(numbers) = numbers_after::<1>(line, b"values") else {
-        return Err(Rule::Form);
-    };
-    let values = numbers[0];
-    if values > MOST_VALUES {
-        return Err(Rule::Limit);
-    }
-    if values < 2 {
-        return Err(Rule::Range);
-    }
-    Ok(AgreeStage::Valued(values))
 }
 
 impl AgreeLines {
@@ -109,10 +78,14 @@ impl LineReader for AgreeLines {
     fn take(&mut self, line: &[u8]) -> Result<Option<AgreePart>, TakeError<Rule>> {
         match self.stage {
             AgreeStage::Unread => {
-                self.stage = behind_head(self.whole, line).map_err(TakeError::Refused)?;
+                head_tested(b"agree 1", self.whole, line).map_err(TakeError::Refused)?;
+                self.stage = AgreeStage::Begun;
             }
             AgreeStage::Begun => {
-                self.stage = behind_values(line).map_err(TakeError::Refused)?;
+                let values = number_within(b"values", 2, MOST_VALUES, line).map_err(
+                    TakeError::Refused,
+                )?;
+                self.stage = AgreeStage::Valued(values);
             }
             AgreeStage::Valued(values) => {
                 self.inputs = read_inputs(self.alloc, line, values, self.nodes)?;

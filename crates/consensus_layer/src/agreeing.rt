@@ -34,13 +34,13 @@ pub fn agree_at(values: &HeardRegister<'_>, node: u32, kind: u64, king: u32, wor
     )
 }
 
-/// What a round gives a register of agreement: the new register, and what was decided where its
-/// slot ended.
+/// What a round gives a register of agreement: the new register, and what was decided if its slot
+/// ended.
 #[derive(Clone, Copy, Debug, Drop)]
 pub struct Agreed {
     /// The new register.
     pub register: Reg,
-    /// The decision, None where no slot ended.
+    /// The decision, None if no slot ended.
     pub decided: Option<u64>,
 }
 
@@ -51,8 +51,8 @@ pub fn slot_length(faults: u32) -> u64
     3 * (u64::from(faults) + 1)
 }
 
-/// The round of a node on a register of agreement, from the output that it showed: the turn that
-/// the output tells, and in the last turn of a slot the decision, and the input of the next one.
+/// The round of a node on a register of agreement, from the output that it showed: the round of a
+/// slot that the output tells, and in the last one the decision, and the input of the next slot.
 ///
 /// The node is one of the nodes, of which there are more than three times as many as may be faulty,
 /// and `work` is for so many.

@@ -3,7 +3,7 @@ ghost use Rattle.layer_laws.specs.CounterSlots.{slot_length};
 
 use crate::agree_parts::AgreePart;
 use crate::agreeing::{agree, slot_length};
-use crate::heeding::heeded;
+use crate::heeding::relevant_liars;
 use counter_core::{Heard, HeardRegister, Overlay, Work};
 use layer_laws::CounterNumbers;
 use std::alloc::{AllocError, Global};
@@ -44,7 +44,7 @@ impl Agreement {
             (λ a. layer_seen a ≡ agree_layer_over numbers.now part.values part.inputs) }
         ensures kept { IfOk result (λ a. decisions_seen a ≡ replicate numbers.now.nodes 0) }
     {
-        numbers.tell();
+        numbers.facts();
         let nodes = numbers.nodes();
         Ok(Agreement {
             nodes,
@@ -109,7 +109,7 @@ impl Overlay for Agreement {
 
     fn begin(&mut self, _at: u64) {}
 
-    fn heeded(
+    fn relevant_liars(
         &self,
         node: u32,
         output: u64,
@@ -117,7 +117,7 @@ impl Overlay for Agreement {
         faulty: &FaultSet,
     ) -> (usize, usize) {
         let values = HeardRegister::of(heard, self.depth, self.nodes, self.faults);
-        heeded(&values, node, output, faulty)
+        relevant_liars(&values, node, output, faulty)
     }
 
     fn advance(

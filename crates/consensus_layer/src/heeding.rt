@@ -3,7 +3,7 @@ ghost use Rattle.std.specs.Prelude.{length};
 ghost use Rattle.sync_types.specs.States.{State};
 ghost use Rattle.construction.specs.PhaseKing.{locked_at};
 ghost use Rattle.construction.specs.Steps.{state_of};
-ghost use Rattle.counter_core.specs.Heeding.{HeedsOnly};
+ghost use Rattle.counter_core.specs.Heeding.{DependsOnlyOn};
 ghost use Rattle.layer_laws.specs.CounterSlots.{agreed, agreed_in_turn, slot_length};
 ghost use Rattle.consensus_layer.specs.Heeding.{has_truly, true_count};
 
@@ -32,9 +32,9 @@ fn count_correct(values: &HeardRegister<'_>, value: Option<u64>, faulty: &FaultS
     count
 }
 
-/// Whether what liars tell may change a register by the instruction of kind 0 or 1: not where all
-/// but the faults have its value and are correct; and by that of kind 0 neither where it is
-/// infinite, nor where too few have its value even with all liars.
+/// Whether what liars tell may change a register by the instruction of kind 0 or 1: not if all but
+/// the faults have its value and are correct; and by that of kind 0 neither if it is infinite, nor
+/// if too few have its value even with all liars.
 fn is_count_open(values: &HeardRegister<'_>, kind: u64, own: Option<u64>, faulty: &FaultSet) -> bool
     ensures { let need = length values.now.states - values.now.faults in
         let same = true_count faulty.now.ids values.now own in
@@ -52,11 +52,11 @@ fn is_count_open(values: &HeardRegister<'_>, kind: u64, own: Option<u64>, faulty
     kind != 0 || need - same <= faulty.len()
 }
 
-/// The liar that a node is, as a stretch of the faulty set; an empty one where it is correct.
+/// The liar that a node is, as a stretch of the faulty set; an empty one if it is correct.
 pub fn liar_at(faulty: &FaultSet, node: u32) -> (usize, usize)
     ensures within { result.1 ≤ length faulty.now.ids }
     ensures enough { (v : ℕ) (config : List State) → node < length config
-        → HeedsOnly (λ heard. state_of heard node) faulty.now.ids v config result.0 result.1 }
+        → DependsOnlyOn (λ heard. state_of heard node) faulty.now.ids v config result.0 result.1 }
 {
     if faulty.contains(node) {
         for j in 0..faulty.len() {
@@ -69,7 +69,7 @@ pub fn liar_at(faulty: &FaultSet, node: u32) -> (usize, usize)
 }
 
 /// Whether a node takes the value of its king by the instruction of kind 2, and that is another
-/// node: not where its own value is finite and marked.
+/// node: not if its own value is finite and marked.
 fn takes_other(own: Reg, king: u32, node: u32) -> bool
     ensures { result ≡ false → ((z : ℕ) × (own ≡ locked_at z)) ⊎ (king ≡ node) }
 {
@@ -79,8 +79,8 @@ fn takes_other(own: Reg, king: u32, node: u32) -> bool
     king != node
 }
 
-/// The liars, as a stretch of the faulty set, on whose lies the register of a node hangs that
-/// [`agree_at`](crate::agree_at) gives it: what the others tell may be anything.
+/// The liars, as a stretch of the faulty set, on whose lies the register depends that
+/// [`agree_at`](crate::agree_at) gives a node: what the others tell may be anything.
 ///
 /// Node and king are below the number of nodes, of which there are more than three times as many as
 /// may be faulty.
@@ -96,7 +96,7 @@ pub fn heeded_at(
     requires node { node < length values.now.states }
     requires king { king < length values.now.states }
     ensures within { result.1 ≤ length faulty.now.ids }
-    ensures enough { HeedsOnly (agreed (length values.now.states) values.now.faults
+    ensures enough { DependsOnlyOn (agreed (length values.now.states) values.now.faults
         values.now.register node kind king)
         faulty.now.ids node values.now.states result.0 result.1 }
 {
@@ -115,8 +115,8 @@ pub fn heeded_at(
     }
 }
 
-/// The liars on whose lies the round of [`agree`](crate::agree) hangs, as [`heeded_at`] has them.
-pub fn heeded(
+/// The liars on whose lies the round of [`agree`](crate::agree) depends, as [`heeded_at`] has them.
+pub fn relevant_liars(
     values: &HeardRegister<'_>,
     node: u32,
     output: u64,
@@ -125,7 +125,7 @@ pub fn heeded(
     requires quorum { 3 * values.now.faults < length values.now.states }
     requires node { node < length values.now.states }
     ensures within { result.1 ≤ length faulty.now.ids }
-    ensures enough { HeedsOnly (agreed_in_turn (length values.now.states) values.now.faults
+    ensures enough { DependsOnlyOn (agreed_in_turn (length values.now.states) values.now.faults
         values.now.register node (output % slot_length values.now.faults))
         faulty.now.ids node values.now.states result.0 result.1 }
 {

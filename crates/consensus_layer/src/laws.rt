@@ -14,13 +14,13 @@ use layer_laws::AnyCounter;
 
 /// In every run of a settling counter with consensus above, whose modulus is a multiple of a slot's
 /// length, each slot that begins after the counter's bound and ends within the run ends with one
-/// decision at all correct nodes. It is their common input where they have one.
+/// decision at all correct nodes. It is their common input if they have one.
 pub fn every_run_decides_over<C: AnyCounter>()
     ensures { (c : C) → EveryRunDecidesOver (C.counter c) (C.is_state c) }
 {}
 
-/// So it is where each node's input may be another one in each round: a slot's decision is the
-/// common input of the round before the slot, where there is one.
+/// So it is if each node's input may be another one in each round: a slot's decision is the common
+/// input of the round before the slot, if there is one.
 pub fn changing_inputs_decide_over<C: AnyCounter>()
     ensures { (c : C) → ChangingInputsDecideOver (C.counter c) (C.is_state c) }
 {}
@@ -32,20 +32,20 @@ pub fn inputs_fit_over()
         → IfOk (part_over numbers number lines) (λ found. IsForNumbers numbers found.value) }
 {}
 
-/// The text of values and inputs for a counter is read as these, at the front of any text.
+/// The text of values and inputs for a counter is read as these, at the beginning of any text.
 pub fn agree_texts_read_back_over()
     ensures { AgreeTextIsReadOver }
 {}
 
 /// In every run of an accepted plan with consensus above, whose modulus is a multiple of a slot's
 /// length, each slot that begins after the plan's bound and ends within the run ends with one
-/// decision at all correct nodes. It is their common input where they have one.
+/// decision at all correct nodes. It is their common input if they have one.
 pub fn every_run_decides()
     ensures { EveryRunDecides }
 {}
 
-/// So it is where each node's input may be another one in each round: a slot's decision is the
-/// common input of the round before the slot, where there is one.
+/// So it is if each node's input may be another one in each round: a slot's decision is the common
+/// input of the round before the slot, if there is one.
 pub fn changing_inputs_decide()
     ensures { ChangingInputsDecide }
 {}
@@ -57,7 +57,8 @@ pub fn inputs_fit()
         → IfOk (part_of plan number lines) (λ found. IsFor plan found.value) }
 {}
 
-/// The text of values and inputs for an accepted plan is read as these, at the front of any text.
+/// The text of values and inputs for an accepted plan is read as these, at the beginning of any
+/// text.
 pub fn agree_texts_read_back()
     ensures { AgreeTextIsRead }
 {}

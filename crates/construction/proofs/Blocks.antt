@@ -10,7 +10,7 @@ use Rattle.construction.specs.Votes.{block}
 pub block_room : (k n i : ℕ) → i < k → i * n + n ≤ k * n
 block_room k n i h = let e : (i + 1) * n ≤ k * n = mul-le-mul_right n (omega arith) in omega arith
 
--- a block of a list that has so many blocks, and perhaps more behind them
+-- a block of a list that has so many blocks, and perhaps more after them
 pub length-block : {X : Type 0} (k n i : ℕ) (xs : List X) → k * n ≤ length xs → i < k
     → length (block n i xs) ≡ n
 length-block k n i xs e h = simp (length-take, length-drop) (omega (arith, block_room k n i h))

@@ -175,11 +175,11 @@ hears_three_zeros = refl
 hears_two_of_each : step_of four 1 (heard_by 4 (3 ∷ []) split lies 1) ≡ state 1 infinite
 hears_two_of_each = refl
 
--- what a faulty node tells itself is its own state
+-- what a faulty node hears of itself is its own state
 hears_itself : heard_by 4 (3 ∷ []) split lies 3 ≡ split
 hears_itself = refl
 
--- ---- a plan with a spare node: three blocks of one node bear a fault, since four are counted
+-- ---- a plan with a spare node: three blocks of one node tolerate a fault, since four are counted
 
 abbrev with_spares : ℕ → ℕ → ℕ → ℕ → Level
 with_spares k f c s = record { blocks = k; faults = f; modulus = c; spares = s }

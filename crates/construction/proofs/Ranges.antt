@@ -85,7 +85,7 @@ register_below s r d i e lt =
     sym (get_or_append_left s.registers (r ∷ []) zero_register i (omega arith))
 
 module _ (level : Level) (below : List Level) where
-  -- a register more
+  -- one more register
   has_more : (low base : ℕ) (s : State) (r : Reg) → low ≤ length below + 1
       → length s.registers ≡ length below → HasFields low base below s
       → IfSome r.a (λ a. a < level.modulus)

@@ -3,8 +3,8 @@ use Rattle.std.specs.Prelude.{ℕ, ◌+◌, ◌*◌, ◌%◌, ◌^◌, nat_lt, i
 use Rattle.std.specs.Int.{div_ceil}
 use Rattle.construction.specs.Widths.{width}
 
--- a level: so many blocks, so many faults that it bears, the modulus that it counts by, and so many
--- spare nodes behind the blocks
+-- a level: so many blocks, so many faults that it tolerates, the modulus that it counts by, and so
+-- many spare nodes after the blocks
 pub record Level : Type 0 where
   pub blocks : ℕ
   pub faults : ℕ
@@ -34,7 +34,7 @@ interval_of beat leaders i = beat * (2 * leaders) ^ i
 abbrev pub span_of : Level → ℕ
 span_of level = interval_of (beat_of level) (leaders_of level) level.blocks
 
--- the nodes of a group of a level: its blocks, of n nodes each, and behind them its spares
+-- the nodes of a group of a level: its blocks, of n nodes each, and after them its spares
 abbrev pub group_size : Level → (n : ℕ) → ℕ
 group_size level n = level.blocks * n + level.spares
 
@@ -43,8 +43,8 @@ abbrev pub nodes_of : List Level → ℕ
 nodes_of [] = 1
 nodes_of (level ∷ below) = group_size level (nodes_of below)
 
--- The level from which on the node at place v takes part: that of which it is a spare, or 0 where
--- it is none. It has the fields of this level and of those above; level 0 is the base.
+-- The level from which on the node at place v takes part: that of which it is a spare, or 0 if it
+-- is none. It has the fields of this level and of those above; level 0 is the base.
 abbrev pub low_of : List Level → (v : ℕ) → ℕ
 low_of [] v = 0
 low_of (level ∷ below) v =
@@ -56,7 +56,7 @@ abbrev pub bound_of : List Level → ℕ
 bound_of [] = 0
 bound_of (level ∷ below) = bound_of below + span_of level
 
--- the faults that the top level bears
+-- the faults that the top level tolerates
 abbrev pub faults_of : List Level → ℕ
 faults_of [] = 0
 faults_of (level ∷ below) = level.faults

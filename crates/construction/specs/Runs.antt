@@ -17,13 +17,13 @@ use Rattle.construction.specs.Steps.{state_of, step_of}
 abbrev pub configuration : List (List State) → ℕ → List State
 configuration run t = slice_index_or run t []
 
--- the number of a node: below the base where the node has it, else 0
+-- the number of a node: below the base if the node has it, else 0
 abbrev pub IsNumber : (has : Bool) (base x : ℕ) → Type 0
 IsNumber true base x = x < base
 IsNumber false base x = x ≡ 0
 
--- a register of a node: a finite value is below the modulus where the node has the register, else
--- the register is zero
+-- a register of a node: a finite value is below the modulus if the node has the register, else the
+-- register is zero
 abbrev pub IsRegister : (has : Bool) (modulus : ℕ) → Reg → Type 0
 IsRegister true modulus r = IfSome r.a (λ a. a < modulus)
 IsRegister false modulus r = r ≡ zero_register
@@ -46,18 +46,18 @@ pub record IsConfiguration (plan : Plan) (config : List State) : Type 0 where
   pub size : length config ≡ plan_nodes plan
   pub states : (v : ℕ) → v < plan_nodes plan → IsState plan v (state_of config v)
 
--- what node u tells each receiver: states of its own
+-- what node u says to each receiver: states of its own
 pub record IsTold (plan : Plan) (u : ℕ) (told : List State) : Type 0 where
   pub size : length told ≡ plan_nodes plan
   pub states : All (IsState plan u) told
 
--- for each sender, what it tells each receiver
+-- for each sender, what it says to each receiver
 pub record IsTable (plan : Plan) (lies : List (List State)) : Type 0 where
   pub size : length lies ≡ plan_nodes plan
   pub rows : (u : ℕ) → u < plan_nodes plan → IsTold plan u (slice_index_or lies u [])
 
 -- what v hears of u: the true state of itself and of a correct node, and of another faulty one what
--- it tells v
+-- it says to v
 abbrev pub heard_of : (faulty : List ℕ) (old : List State) (lies : List (List State)) (v u : ℕ)
     → State
 heard_of faulty old lies v u =
@@ -107,13 +107,13 @@ pub record CountsFrom (plan : Plan) (faulty : List ℕ) (run : List (List State)
 abbrev pub Counts : (plan : Plan) (faulty : List ℕ) (run : List (List State)) → Type 0
 Counts plan faulty run = CountsFrom plan faulty run (plan_bound plan)
 
--- a faulty set that the plan bears: rising ids of nodes, at most F
+-- a faulty set that the plan tolerates: rising ids of nodes, at most F
 pub record IsBorne (plan : Plan) (faulty : List ℕ) : Type 0 where
   pub rising : IsStrictlyIncreasing faulty
   pub ids : All (λ id. id < plan_nodes plan) faulty
   pub few : length faulty ≤ plan_faults plan
 
--- whatever the start and the lies, with each faulty set that the plan bears
+-- whatever the start and the lies, with each faulty set that the plan tolerates
 abbrev pub Settles : Plan → Type 0
 Settles plan =
     (faulty : List ℕ) (run : List (List State)) → IsBorne plan faulty → Run plan faulty run

@@ -31,7 +31,7 @@ new_register l n level v group =
     let values = map (λ s. (register_at l s).a) group in
     register_after n level (register_at l (state_of group v)) outputs values
 
--- a state with a register behind
+-- a state with a register after its others
 abbrev pub with_register : State → Reg → State
 with_register s r = record { x = s.x; registers = s.registers ++ r ∷ [] }
 

@@ -7,7 +7,7 @@ use Rattle.std.proofs.lemmas.List.{ext_get_or}
 use Rattle.sync_types.specs.FaultSets.{is_in}
 use Rattle.sync_types.specs.States.{State, zero_state}
 use Rattle.construction.specs.Steps.{state_of}
-use Rattle.counter_core.specs.Heeding.{HeedsOnly}
+use Rattle.counter_core.specs.Heeding.{DependsOnlyOn}
 
 -- an id that is among others has a place among them
 pub place_of : (ids : List ℕ) (u : ℕ) → is_in ids u ≡ true → (j : ℕ) × (j < length ids)
@@ -18,9 +18,9 @@ place_of (id ∷ ids) u is = elim (or_cases (u == id) (is_in ids u) is) [
   | inr there ↦ let rest = place_of ids u there in (suc rest.0, omega (arith, rest.1), rest.2)
 ]
 
--- where all liars tell the same, all is heard the same
+-- if all liars say the same, all is heard the same
 pub heeds_all : {Found : Type 0} (find : List State → Found) (faulty : List ℕ) (v : ℕ)
-    (config : List State) → HeedsOnly find faulty v config 0 (length faulty)
+    (config : List State) → DependsOnlyOn find faulty v config 0 (length faulty)
 heeds_all find faulty v config heard told first second same =
     ap find (ext_get_or (zero_state 0) heard told (first.size ∙ sym second.size) (λ u lt.
     let inside : u < length config = omega (arith, lt, first.size) in

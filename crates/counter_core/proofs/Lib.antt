@@ -1,4 +1,3 @@
-pub mod LiesHeard
 pub mod ListsAndPlaces
 pub mod ClearedRegisters
 pub mod Layers

@@ -23,7 +23,7 @@ abbrev pub StaysInRange : (m : Meaning) (in_range : State → Type 0) → Type 0
 StaysInRange m in_range = (v : ℕ) (heard : List State) → v < m.nodes → length heard ≡ m.nodes
     → All in_range heard → in_range (m.next v heard)
 
--- registers behind the counter's own matter to nothing
+-- registers after the counter's own matter to nothing
 pub record IgnoresFurther (m : Meaning) (in_range : State → Type 0) : Type 0 where
   pub next : (v : ℕ) (heard : List State) → v < m.nodes → length heard ≡ m.nodes
       → m.next v (map (cut m.depth) heard) ≡ m.next v heard

@@ -1,4 +1,4 @@
--- Of a layer that has registers nothing is asked where it would have none.
+-- What is asked of layers without registers holds of a layer with some.
 use Rattle.std.specs.Prelude.{◌≡◌, ℕ, suc}
 use Rattle.std.proofs.Common.{arith}
 use Rattle.counter_core.specs.Overlays.{Layer, IsDeaf}

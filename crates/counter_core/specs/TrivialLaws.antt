@@ -44,7 +44,7 @@ one_node_ignores c = record {
 pub one_node_zero : (c : ℕ) → 2 ≤ c → IsBelow c (zero_state 0)
 one_node_zero c two = le_of_lt two
 
--- where no node may be faulty none is
+-- if no node may be faulty, none is
 none_faulty : (faulty : List ℕ) (v : ℕ) → length faulty ≤ 0 → is_in faulty v ≡ false
 none_faulty [] v none = refl
 none_faulty (id ∷ ids) v none = absurd (not-suc-le-zero none)

@@ -25,7 +25,7 @@ pub trait Counter: Drop {
     fn nodes(&self) -> u32
         ensures { result ≡ (meaning self.now).nodes };
 
-    /// How many of them may be faulty, less than a third.
+    /// How many of them may be faulty, fewer than a third.
     fn faults(&self) -> u32
         ensures { result ≡ (meaning self.now).faults };
 
@@ -42,7 +42,7 @@ pub trait Counter: Drop {
         ensures { result ≡ (meaning self.now).depth };
 
     /// The lowest level in which the node at a place takes part: that of which it is a spare, and 0
-    /// where it is none. It is at most the depth.
+    /// if it is none. It is at most the depth.
     fn low(&self, place: u32) -> usize
         requires { place < (meaning self.now).nodes }
         ensures { result ≡ (meaning self.now).low place };
@@ -59,7 +59,7 @@ pub trait Counter: Drop {
         ensures { result ≡ (meaning self.now).shows place state.now };
 
     /// Makes the step of the node at a place, from what it hears of all nodes. It writes the number
-    /// and the registers that the counter uses, zero where the node lacks the field, and leaves
+    /// and the registers that the counter uses, zero if the node lacks the field, and leaves
     /// further registers of `out` as they are.
     fn advance(&self, place: u32, heard: &Heard<'_>, work: &mut Work, out: &mut NodeState)
         requires place { place < (meaning self.now).nodes }

@@ -92,7 +92,7 @@ impl<'a> HeardRegister<'a> {
         count
     }
 
-    /// How many nodes have this value, or 0 where it is infinity.
+    /// How many nodes have this value, or 0 if it is infinity.
     fn count_of_finite(&self, value: Option<u64>) -> usize
         ensures { (value ≡ None) ⊎ (result ≡ count_of (values_heard self.now) value) }
     {
@@ -113,7 +113,7 @@ impl<'a> HeardRegister<'a> {
         }
     }
 
-    /// The least finite value that more nodes have than may be faulty, None where there is none. So
+    /// The least finite value that more nodes have than may be faulty, None if there is none. So
     /// many have `own`: what all but the faulty ones have is the only such value.
     pub fn least(&self, own: Option<u64>, same: usize, values: &mut Tally) -> Option<u64>
         requires same { same ≡ count_of (values_heard self.now) own }

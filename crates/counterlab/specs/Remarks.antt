@@ -25,7 +25,7 @@ long_line = concat (
     ∷ codes "(of check 2^44, of node in its header alone), "
     ∷ codes "or of node more than 1000000 packets\n" ∷ [])
 
--- A line that says what failed, where the answer does not say it; else nothing.
+-- A line that says what failed, if the answer does not say it; else nothing.
 abbrev pub remark_of : Status → List ℕ
 remark_of status.Ok = []
 remark_of (status.PlanRefused line premise) = []

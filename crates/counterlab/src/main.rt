@@ -1,5 +1,5 @@
-//! The program: the workbench over standard input and standard output. Where the answer does not
-//! say what failed, or the words are none, one line on standard error does ([`put_remark`]).
+//! The program: the workbench over standard input and standard output. If the answer does not say
+//! what failed, or the words are no command, one line on standard error does ([`put_remark`]).
 #![tactic(auto)]
 
 #[cfg(test)]
@@ -35,7 +35,7 @@ fn run(rt: &HostRuntime) -> Status {
 fn main(rt: HostRuntime) -> ExitCode {
     let status = run(&rt);
     let stderr = rt.stderr();
-    // Where standard error is closed, the code alone says it.
+    // If standard error is closed, the code alone says it.
     let _ = put_remark(&mut StdSink::new(io::writer(&stderr)), status);
     exit_code(status)
 }

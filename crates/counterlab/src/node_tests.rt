@@ -110,7 +110,7 @@ fn calls_that_fail_are_told(rt: HostRuntime) -> Result<(), Fail> {
     Ok(())
 }
 
-/// Nothing is asked of a source behind a header with which its bytes end.
+/// Nothing is asked of a source after a header with which its bytes end.
 #[test]
 fn headers_are_refused_or_end_the_input(rt: HostRuntime) -> Result<(), Fail> {
     let none: [u64; 0] = [];

@@ -3,8 +3,7 @@ use std::alloc::Global;
 use std::test::Fail;
 use sync_types::{Part, Rule, Status};
 
-/// A word, the part behind the plan of one node, and the line, the rule and the text that refuse
-/// it.
+/// A word, the part after the plan of one node, and the line, the rule and the text that refuse it.
 type Row = (&'static str, &'static str, Part, u64, Rule, &'static str);
 
 const ROWS: [Row; 4] = [

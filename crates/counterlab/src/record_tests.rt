@@ -75,7 +75,7 @@ const SHOWN: [Shown; 5] = [
         9,
         "\nera 0 locked 3\nera 5 locked 9\n",
     ),
-    // In two eras more nodes of a block lie than it bears, and the last era changes who lies.
+    // In two eras more nodes of a block lie than it tolerates, and the last era changes who lies.
     (
         "plan 2\nbase 576\nlevel 3 1 960 spare 1\nlevel 3 3 10 spare 1\nend\nscript 2\n\
          faulty 0 1 3\nseed 0000000000000007000000000000000000000000000000000000000000000000\n\
@@ -130,7 +130,7 @@ fn are_recorded(alloc: Global, shown: &Shown) -> Result<bool, Fail> {
     Ok(all && rows == recorded && run.taken().ends_with(shown.3.as_bytes()))
 }
 
-/// `record` plays each round, whatever `run` knows of the rows behind a lock.
+/// `record` plays each round, whatever `run` knows of the rows after a lock.
 #[test]
 fn rows_of_a_run_are_those_of_its_record(rt: HostRuntime) -> Result<(), Fail> {
     for shown in &SHOWN {

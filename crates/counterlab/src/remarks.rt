@@ -50,10 +50,10 @@ fn put_cut<K: Sink>(sink: &mut K, packet: u64, sender: u32) -> Result<(), WriteF
     )
 }
 
-/// Writes a line that says what failed, where the answer of a program that ended so does not say
-/// it; of words that are none it says which there are. Else it writes nothing.
+/// Writes a line that says what failed, if the answer of a program that ended so does not say it;
+/// of words that are no command it says which there are. Else it writes nothing.
 ///
-/// `WriteFault` comes only where the sink counted a fault; a prefix of the line was then taken.
+/// `WriteFault` comes only if the sink counted a fault; a prefix of the line was then taken.
 pub fn put_remark<K: Sink>(sink: &mut K, status: Status) -> Result<(), WriteFault>
     ensures { Puts result (remark_of status) (K.told sink.old) (K.told sink.new) }
 {

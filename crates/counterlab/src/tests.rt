@@ -82,7 +82,7 @@ pub fn answer(alloc: Global, line: &str, input: &[u8]) -> Result<(Status, MemSin
     answer_in(alloc, line, input, 4096)
 }
 
-/// The same, where the sink has room for so many bytes.
+/// The same, if the sink has room for so many bytes.
 pub fn answer_in(
     alloc: Global,
     line: &str,
@@ -197,7 +197,7 @@ fn inputs_are_refused_in_the_name_of_their_part(rt: HostRuntime) -> Result<(), F
     Ok(())
 }
 
-/// A plan of four nodes, and the front of a script for it.
+/// A plan of four nodes, and the beginning of a script for it.
 const FOUR_NODES: &str = "plan 1\nbase 2304\nlevel 4 1 10\nend\nscript 1\nfaulty 3\nstart zero\n";
 
 #[test]

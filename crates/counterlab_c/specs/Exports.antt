@@ -5,7 +5,7 @@ use Rattle.node_calls.specs.declared.errors.CallError.TheVariants as error
 use Rattle.counterlab_c.specs.declared.answers.Answer.{Answer}
 use Rattle.counterlab_c.specs.Codes.{answer_of}
 
--- memory was refused, which may be whatever was asked for
+-- memory was refused, which may happen whatever was asked for
 abbrev pub no_memory : Answer
 no_memory = answer_of (Err error.NoMemory)
 
@@ -13,15 +13,15 @@ no_memory = answer_of (Err error.NoMemory)
 abbrev pub GivesNumber : Result ℕ CallError → Answer → Type 0
 GivesNumber defined answer = (answer ≡ answer_of defined) ⊎ (answer ≡ no_memory)
 
--- of a value that is defined, its number is the answer, and what it writes is there in the place of
--- what was there before; an error leaves that as it was
+-- of a value that is defined, its number is the answer, and what it writes replaces what was there
+-- before; an error leaves that as it was
 abbrev pub IsGiven : {V M : Type 0} → (number : V → ℕ) → (writes : V → M) → Result V CallError
     → (old new : M) → Answer → Type 0
 IsGiven number writes (Ok value) old new answer =
     (answer ≡ answer_of (Ok (number value))) × (new ≡ writes value)
 IsGiven number writes (Err e) old new answer = (answer ≡ answer_of (Err e)) × (new ≡ old)
 
--- where memory was refused, all is as it was
+-- if memory was refused, all is as it was
 abbrev pub Gives : {V M : Type 0} → (number : V → ℕ) → (writes : V → M) → Result V CallError
     → (old new : M) → Answer → Type 0
 Gives number writes defined old new answer =

@@ -1,6 +1,6 @@
 //! The calls of a node for programs that are not written in Rattle.
 //!
-//! Each function is told the text of a plan of either construction, keeps nothing between calls,
+//! Each function is given the text of a plan of either construction, keeps nothing between calls,
 //! and gives an [`Answer`]. Any bytes and numbers may be given. docs/LIBRARY.md has the codes, how
 //! to link, and what a caller owes.
 #![tactic(auto)]
@@ -44,7 +44,7 @@ pub extern "C" fn counterlab_plan(alloc: Global, plan: &[u8], numbers: &mut Plan
     texts_have_counters();
     match counter_in(alloc, plan) {
         Ok(read) => {
-            read.tell();
+            read.facts();
             *numbers = numbers_of(&read);
             answer_of(Ok(0))
         }
@@ -72,7 +72,7 @@ pub extern "C" fn counterlab_output(alloc: Global, plan: &[u8], id: u32, state: 
     answer_of(output(alloc, plan, id, state))
 }
 
-/// Steps node `id` behind each packet, from its state and into it; the value is how many packets
+/// Steps node `id` after each packet, from its state and into it; the value is how many packets
 /// these were. An error leaves the state as it was.
 #[unsafe(no_mangle)]
 pub extern "C" fn counterlab_step(
@@ -90,7 +90,7 @@ pub extern "C" fn counterlab_step(
     // round on they stay so and count.
     ensures count { NodesCount }
 
-    // From there on they do so where states are lost too, as long as each is told in each round
+    // From there on they do so even if states are lost, as long as each is given in each round
     // those of N - F correct nodes, its own among them, whichever these are.
     ensures losses { LossyNodesCount }
 
@@ -102,7 +102,7 @@ pub extern "C" fn counterlab_step(
     ensures lossy { AnyLossesAreTold }
 
     // Nodes of which some step by this call, and others are processes over packets, count as one
-    // network, and go on where states are lost.
+    // network, and go on even if states are lost.
     ensures mixed { MixedNodesCount }
     ensures mixed_losses { MixedNodesStayLocked }
 

@@ -1,5 +1,5 @@
 -- A list of which some places are known: what it answers is what the known ones answer with the
--- others behind them.
+-- others after them.
 use Rattle.std.proofs.Common.{◌≡◌, ℕ, Bool, not, List, ◌++◌, map, length, Option, Some, refl, sym}
 use Rattle.std.proofs.Common.{◌∙◌, arith}
 use Rattle.std.specs.List.{filter}

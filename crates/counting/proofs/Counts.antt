@@ -40,7 +40,7 @@ pub count_of-places : (values : List (Option ℕ)) (z : Option ℕ)
     → count_of values z ≡ places (holds_at values z) (length values)
 count_of-places values z = count_by_places (option_eq nat_eq z) values None
 
--- the same where the length is known by another name
+-- the same if the length is known by another name
 pub count_of-places_at : (values : List (Option ℕ)) (z : Option ℕ) (n : ℕ) → length values ≡ n
     → count_of values z ≡ places (holds_at values z) n
 count_of-places_at values z n long = count_of-places values z ∙ ap (places (holds_at values z)) long
@@ -50,7 +50,7 @@ pub count_of-cons : (y : Option ℕ) (values : List (Option ℕ)) (z : Option �
     → count_of (y ∷ values) z ≡ (if option_eq nat_eq z y then 1 else 0) + count_of values z
 count_of-cons y values z = sum_by-cons (λ x. if option_eq nat_eq z x then 1 else 0) y values
 
--- a value counts in two lists, one behind the other, as often as in both
+-- a value counts in two lists, one after the other, as often as in both
 pub count_of-append : (xs ys : List (Option ℕ)) (z : Option ℕ)
     → count_of (xs ++ ys) z ≡ count_of xs z + count_of ys z
 count_of-append xs ys z = sum_by-append (λ x. if option_eq nat_eq z x then 1 else 0) xs ys
@@ -79,7 +79,7 @@ two_values values y z ne = omega (
       (λ i lt p q. ne (sym (holds_is values y i p) ∙ holds_is values z i q)),
 )
 
--- where all places but the odd ones hold z
+-- if all places but the odd ones hold z
 pub count_of_most : (values : List (Option ℕ)) (odd : ℕ → Bool) (z : Option ℕ)
     → ((i : ℕ) → i < length values → odd i ≡ false → get_or values i None ≡ z)
     → length values ≤ places odd (length values) + count_of values z

@@ -1,5 +1,5 @@
 -- The majority and the least value of what is heard of a stretch of nodes, by the values of the
--- correct ones and behind them what the liars tell.
+-- correct ones and after them what the liars say.
 use Rattle.std.proofs.Common.{◌≡◌, ℕ, ◌+◌, ◌≤◌, Bool, List, ◌++◌, length, Option, Some, sym, ◌∙◌}
 use Rattle.std.proofs.lemmas.List.{length-append}
 use Rattle.counting.specs.Places.{places}
@@ -16,7 +16,7 @@ module _ {X : Type 0} (none : X) (told : List X) (p : ℕ → Bool) (w : X → O
   heard : List (Option ℕ)
   heard = heard_values none told p w true_value from count
 
-  -- the values of the correct ones, and behind them what the liars tell
+  -- the values of the correct ones, and after them what the liars say
   parted : List (Option ℕ)
   parted =
       true_values none told p w true_value from count ++ told_values none told p w true_value from k
@@ -50,7 +50,7 @@ module _ {X : Type 0} (none : X) (told : List X) (p : ℕ → Bool) (w : X → O
   unfolding heard parted
   heard_least f = same_least f heard parted (λ z. as_many (Some z))
 
-  -- a majority that stays, whatever the liars tell, is the one heard
+  -- a majority that stays, whatever the liars say, is the one heard
   pub known_majority : (majority : Option ℕ)
       → MajorityStays k (true_values none told p w true_value from count) majority
       → majority_of (heard_values none told p w true_value from count) ≡ majority

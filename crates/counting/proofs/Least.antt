@@ -57,7 +57,7 @@ rest_at_most : (a z : ℕ) (o : Option ℕ) (b : Bool) → AtMost o z
 rest_at_most a z o true s = lesser_rest a o z s
 rest_at_most a z o false s = s
 
--- where a value that stands there passes, the least that passes is at most that
+-- if a value that stands there passes, the least that passes is at most that
 pub least_at_most : (passes : ℕ → Bool) (values : List (Option ℕ)) (i z : ℕ) → i < length values
     → get_or values i None ≡ Some z → passes z ≡ true
     → (j : ℕ) × (least_passing passes values ≡ Some j) × (j ≤ z)
@@ -78,7 +78,7 @@ pub least_has : (f : ℕ) (values : List (Option ℕ)) (j : ℕ) → least_above
 least_has f values j e =
     ltb-true _ _ (least_passes (λ a. nat_lt f (count_of values (Some a))) values j e)
 
--- where more than f places hold z, there is a least such number, and it is at most z
+-- if more than f places hold z, there is a least such number, and it is at most z
 pub least_is : (f : ℕ) (values : List (Option ℕ)) (z : ℕ) → f < count_of values (Some z)
     → (j : ℕ) × (least_above f values ≡ Some j) × (j ≤ z)
 least_is f values z h =
@@ -103,7 +103,7 @@ no_least_by : (f : ℕ) (values : List (Option ℕ)) → ((z : ℕ) → count_of
 no_least_by f values h (Some z) e = absurd (omega (arith, h z, least_has f values z e))
 no_least_by f values h None e = refl
 
--- where no number is held by more than f places, there is no least
+-- if no number is held by more than f places, there is no least
 pub no_least : (f : ℕ) (values : List (Option ℕ)) → ((z : ℕ) → count_of values (Some z) ≤ f)
     → least_above f values ≡ None
 no_least f values h = no_least_by f values h (least_above f values) refl
@@ -119,7 +119,7 @@ few_below f values j z e lt = ⊎_elim
     (λ le. le)
     (cases_lt f (count_of values (Some z)))
 
--- where there is no least, no number is held by more than f places
+-- if there is no least, no number is held by more than f places
 pub least_above_none : (f : ℕ) (values : List (Option ℕ)) (z : ℕ) → least_above f values ≡ None
     → count_of values (Some z) ≤ f
 least_above_none f values z e = ⊎_elim

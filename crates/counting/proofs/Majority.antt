@@ -32,7 +32,7 @@ first_none_by : (a : ℕ) (rest : Option ℕ) (b : Bool) → (if b then Some a e
 first_none_by a rest true e = absurd (cc)
 first_none_by a rest false e = (refl, e)
 
--- where none passes, each finite value there fails
+-- if none passes, each finite value there fails
 pub first_none : (passes : ℕ → Bool) (values : List (Option ℕ)) (i z : ℕ)
     → first_passing passes values ≡ None → i < length values → get_or values i None ≡ Some z
     → passes z ≡ false
@@ -83,7 +83,7 @@ pub majority_is : (values : List (Option ℕ)) (z : ℕ) → length values < 2 *
     → majority_of values ≡ Some z
 majority_is values z h = majority_by values z h (majority_of values) refl
 
--- where there is no majority, no number is held by more than half of the places
+-- if there is no majority, no number is held by more than half of the places
 pub majority_none : (values : List (Option ℕ)) (z : ℕ) → majority_of values ≡ None
     → 2 * count_of values (Some z) ≤ length values
 majority_none values z e = ⊎_elim
@@ -97,12 +97,12 @@ no_majority_by : (values : List (Option ℕ))
 no_majority_by values h (Some z) e = absurd (omega (arith, h z, majority_has values z e))
 no_majority_by values h None e = refl
 
--- where no number is held by more than half of the places, there is no majority
+-- if no number is held by more than half of the places, there is no majority
 pub no_majority : (values : List (Option ℕ))
     → ((z : ℕ) → 2 * count_of values (Some z) ≤ length values) → majority_of values ≡ None
 no_majority values h = no_majority_by values h (majority_of values) refl
 
--- where all places but fewer than half hold a number, it is the majority
+-- if all places but fewer than half hold a number, it is the majority
 pub majority_of_most : (values : List (Option ℕ)) (odd : ℕ → Bool) (z : ℕ)
     → 2 * places odd (length values) < length values
     → ((i : ℕ) → i < length values → odd i ≡ false → get_or values i None ≡ Some z)
@@ -110,7 +110,7 @@ pub majority_of_most : (values : List (Option ℕ)) (odd : ℕ → Bool) (z : �
 majority_of_most values odd z few h =
     majority_is values z (omega (arith, count_of_most values odd (Some z) h))
 
--- among numbers: where all places but fewer than half hold one, it is the majority
+-- among numbers: if all places but fewer than half hold one, it is the majority
 pub majority_or_zero_of_most : (numbers : List ℕ) (odd : ℕ → Bool) (z : ℕ)
     → 2 * places odd (length numbers) < length numbers
     → ((i : ℕ) → i < length numbers → odd i ≡ false → get_or numbers i 0 ≡ z)

@@ -31,7 +31,7 @@ module _ {X : Type 0} (g : X → Option ℕ) (z : Option ℕ) where
       one_more x xs (filter p xs) (filter (λ x. not (p x)) xs) (p x) (count_of_parted p xs)
 
 module _ {X : Type 0} (none : X) (told : List X) (p : ℕ → Bool) where
-  -- what the node u that passes tells: the place is how many before it pass
+  -- what the node u that passes says: the place is how many before it pass
   abbrev pub told_of : ℕ → X
   told_of u = get_or told (places p u) none
 
@@ -50,7 +50,7 @@ module _ {X : Type 0} (none : X) (told : List X) (p : ℕ → Bool) where
   shifted : (i count : ℕ) → places p (i + suc count) ≡ places p (i + 1 + count)
   shifted i count = let e : i + suc count ≡ i + 1 + count = omega arith in ap (places p) e
 
-  -- of a stretch of nodes, those that pass tell a stretch of what is told
+  -- of a stretch of nodes, those that pass say a stretch of what is said
   pub told_stretch : (count from k : ℕ) → places p from + k ≡ places p (from + count)
       → places p (from + count) ≤ length told
       → map told_of (filter p (range_with_len from count)) ≡ take k (drop (places p from) told)
@@ -107,7 +107,7 @@ map_passing {Y} q f g (u ∷ us) same = first (q u) refl (map_passing q f g us s
 
 module _ {X : Type 0} (none : X) (told : List X) (p : ℕ → Bool) (w : X → Option ℕ)
     (true_value : ℕ → Option ℕ) where
-  -- the value heard of u: true, or of a liar that of what it tells
+  -- the value heard of u: the true one, or of a liar that of what it says
   abbrev pub heard_value : ℕ → Option ℕ
   heard_value u = if p u then w (told_of none told p u) else true_value u
 
@@ -119,13 +119,13 @@ module _ {X : Type 0} (none : X) (told : List X) (p : ℕ → Bool) (w : X → O
   abbrev pub true_values : (from count : ℕ) → List (Option ℕ)
   true_values from count = map true_value (filter (λ u. not (p u)) (range_with_len from count))
 
-  -- what its liars tell, where k of them lie
+  -- what its liars say, if k of them lie
   abbrev pub told_values : (from k : ℕ) → List (Option ℕ)
   told_values from k = map w (take k (drop (places p from) told))
 
   module _ (from count k : ℕ) (e : places p from + k ≡ places p (from + count))
       (within : places p (from + count) ≤ length told) where
-    -- they tell as many values as they are
+    -- they say one value each
     pub told_long : length (told_values from k) ≡ k
     told_long =
         length-map (take k (drop (places p from) told)) w
@@ -157,7 +157,7 @@ module _ {X : Type 0} (none : X) (told : List X) (p : ℕ → Bool) (w : X → O
         (λ u h. ap (λ b. if b then w (told_of none told p u) else true_value u) (not-true (p u) h))
 
     -- A value counts among the true ones of the correct nodes, or among those in the stretch of
-    -- what the liars tell.
+    -- what the liars say.
     pub heard_counts : (z : Option ℕ)
         → count_of (heard_values from count) z
         ≡ count_of (true_values from count) z + count_of (told_values from k) z
@@ -168,7 +168,7 @@ module _ {X : Type 0} (none : X) (told : List X) (p : ℕ → Bool) (w : X → O
         let right = ap (λ ys. count_of ys z) others_values in
         omega (arith, parted, left, right)
 
-    -- as many values are heard as nodes are there
+    -- as many values are heard as there are nodes
     pub heard_long : length (heard_values from count)
         ≡ length (true_values from count) + length (told_values from k)
     unfolding us

@@ -121,13 +121,13 @@ some_place p (suc n) = some_place_by p n (cases_Bool (p n)) (some_place p n)
 none_step : (p : ℕ → Bool) (n : ℕ) → p n ≡ false → places p n ≤ 0 → places p (suc n) ≤ 0
 none_step p n e h = rw e (omega arith)
 
--- where all fail none are counted
+-- if all fail, none are counted
 pub none_pass : (p : ℕ → Bool) (n : ℕ) → ((i : ℕ) → i < n → p i ≡ false) → places p n ≤ 0
 none_pass p zero h = omega arith
 none_pass p (suc n) h =
     none_step p n (h n (omega arith)) (none_pass p n (λ i lt. h i (omega arith)))
 
--- where more than none are counted, one passes
+-- if more than none are counted, one passes
 pub one_passes : (p : ℕ → Bool) (n : ℕ) → 0 < places p n → (i : ℕ) × (i < n) × (p i ≡ true)
 one_passes p n h = ⊎_elim (λ s. s) (λ s. absurd (omega (arith, none_pass p n s))) (some_place p n)
 

@@ -40,7 +40,7 @@ majority_stays more values z h rest long =
     majority_is (values ++ rest) z
     (omega (arith, h, long, length-append values rest, count_of-append values rest (Some z)))
 
--- where no number can come to more than half, there is no majority
+-- if no number can come to more than half, there is no majority
 pub no_majority_stays : (more : ℕ) (values : List (Option ℕ))
     → ((z : ℕ) → 2 * (count_of values (Some z) + more) ≤ length values + more)
     → MajorityStays more values None
@@ -55,7 +55,7 @@ no_majority_stays more values h rest long =
       count_of-le rest (Some z),
     ))
 
--- where no number below the least can come above f, the least stays
+-- if no number below the least can come above f, the least stays
 pub least_stays : (f more : ℕ) (values : List (Option ℕ))
     → ((z : ℕ) → IsBelow z (least_above f values) → count_of values (Some z) + more ≤ f)
     → LeastStays f more values (least_above f values)

@@ -19,7 +19,7 @@ abbrev pub majority_of : List (Option ℕ) → Option ℕ
 majority_of values =
     first_passing (λ a. nat_lt (length values) (2 * count_of values (Some a))) values
 
--- the number that more than half of the places hold, or 0 where there is none
+-- the number that more than half of the places hold, or 0 if there is none
 abbrev pub majority_or_zero : List ℕ → ℕ
 majority_or_zero numbers = unwrap_or (majority_of (map Some numbers)) 0
 

@@ -1,1 +1,5 @@
-pub mod Asked
+pub mod Conduct
+pub mod Echoes
+pub mod HelpText
+pub mod Reasons
+pub mod Requests

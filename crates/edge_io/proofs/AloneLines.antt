@@ -1,4 +1,4 @@
--- The end behind the last line of a text whose lines all end with a newline.
+-- The end after the last line of a text whose lines all end with a newline.
 use Rattle.std.proofs.Common.{◌≡◌, ◌⊎◌, ℕ, ◌+◌, ◌-◌, ◌≤◌, Bool, true, false, List, [], ◌∷◌, ◌++◌}
 use Rattle.std.proofs.Common.{length, Option, None, Result, Err, if◌then◌else◌, sym, ap, ◌∙◌}
 use Rattle.std.proofs.Common.{append_assoc, append-nil, length-append, subst, arith}
@@ -36,7 +36,7 @@ module _ {S V R : Type 0} (step : S → List ℕ → Next S V R) (form : R)
         → ended_text step form start limit longer (bytes ++ rest)
         ≡ alone form number (room_of longer (limit - counted)) value (lines_of rest)
 
-  -- what the end behind the last line makes of the text
+  -- what the end after the last line makes of the text
   module _ (now new : Option (List ℕ)) (value : V) (number counted : ℕ)
       (h : Alone now value number counted) where
     pub end_met : Keeps now new × IsAtEnd new → WholeText step form start limit old new value
@@ -61,7 +61,7 @@ module _ {S V R : Type 0} (step : S → List ℕ → Next S V R) (form : R)
         ∙ ap (λ (b : Bool). Err (record { line = number; rule = if b then by form else beyond }))
         first.seen
 
-    -- ---- a line that is open behind the last one does not decide the text
+    -- ---- a line that is open after the last one does not decide the text
 
     alone_only : (n : ℕ) (lines : List (List ℕ)) → number ≡ n
         → RefusedOnlyAt n form (alone form number None value lines)

@@ -1,4 +1,4 @@
--- A part that is read behind another one of the same text.
+-- A part that is read after another one of the same text.
 use Rattle.std.proofs.Common.{◌≡◌, ℕ, ◌+◌, ◌≤◌, Bool, true, false, List, ◌++◌, length, Option, None}
 use Rattle.std.proofs.Common.{sym, ap, ◌∙◌, length-append, subst, arith}
 use Rattle.texts.specs.Lines.{whole_lines}
@@ -38,7 +38,7 @@ module _ {S V R : Type 0} (step : S → List ℕ → Next S V R) (form : R) (sta
       ∙ ap (behind_lines count) (w.behind true bytes anything)
       ∙ sym (open_behind bytes)
 
-  -- what may go on behind the first, may go on
+  -- what may go on after the first, may go on
   pub goes_on_behind : (bytes : List ℕ) → MayGoOn limit after bytes
       → MayGoOn limit before (w.decided.bytes ++ bytes)
   goes_on_behind bytes h = record {

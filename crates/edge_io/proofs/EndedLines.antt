@@ -53,7 +53,7 @@ module _ {S V R : Type 0} (step : S → List ℕ → Next S V R) (form : R)
   module _ (now new : Option (List ℕ)) (s : S) (number lines counted after : ℕ) (line : List ℕ)
       (one : is_one_line line ≡ true) (short : length line ≤ 4096)
       (stands : Standing full form start 1 limit 0 old now s number lines counted) where
-    -- the bytes so far, then this line with a byte behind it, then the rest
+    -- the bytes so far, then this line with a byte after it, then the rest
     line_at : (b : ℕ) (longer : Bool) (rest : List ℕ)
         → fed_part full form start 1 limit 0 longer
         (ended_lines longer ((stands.bytes ++ (line ++ b ∷ [])) ++ rest))
@@ -290,7 +290,7 @@ module _ {S V R : Type 0} (step : S → List ℕ → Next S V R) (form : R)
       lost = text_pends (omega (arith, within, stands.within));
     }
 
-    -- memory ran out behind the line
+    -- memory ran out after the line
     pub halted_line : LineIs limit counted after now new line (Ok how.Whole)
         → HaltedText step form start limit old new
     halted_line (read, count, within) = record {

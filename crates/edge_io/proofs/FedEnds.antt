@@ -42,7 +42,7 @@ module _ {S V R : Type 0} (step : S → List ℕ → Next S V R) (form : R) wher
       (number lines counted after : ℕ) (line : List ℕ)
       (one : is_one_line line ≡ true) (short : length line ≤ 4096)
       (stands : Standing step form start first limit before old now s number lines counted) where
-    -- the bytes so far, then this line with a byte behind it, then the rest
+    -- the bytes so far, then this line with a byte after it, then the rest
     split_more : (b : ℕ) (longer : Bool) (rest : List ℕ)
         → fed_part step form start first limit before longer
         (lines_of ((stands.bytes ++ (line ++ b ∷ [])) ++ rest))

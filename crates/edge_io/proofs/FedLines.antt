@@ -90,7 +90,7 @@ module _ {S V R : Type 0} (step : S → List ℕ → Next S V R) (form : R) wher
     module _ (now new : Option (List ℕ)) (s : S) (number lines counted after : ℕ) (line : List ℕ)
         (one : is_one_line line ≡ true) (short : length line ≤ 4096)
         (stands : Standing step form start first limit before old now s number lines counted) where
-      -- the bytes so far, with bytes more behind them
+      -- the bytes so far, with more bytes after them
       pub parted : (more : List ℕ) (b : ℕ) (rest : List ℕ)
           → (stands.bytes ++ (more ++ b ∷ [])) ++ rest ≡ stands.bytes ++ (more ++ b ∷ rest)
       parted more b rest =
@@ -215,7 +215,7 @@ module _ {S V R : Type 0} (step : S → List ℕ → Next S V R) (form : R) wher
             line one short (omega (arith, read.2, stands.within));
       }
 
-      -- memory ran out behind the line
+      -- memory ran out after the line
       pub halted_here : LineIs limit counted after now new line (Ok how.Whole)
           → PartFed step form start first limit before after old new (Err fed.NoMemory)
       halted_here read = record {

@@ -61,7 +61,7 @@ module _ (limit before mid after : ℕ) (s t u : Option (List ℕ)) (bytes : Lis
     within = omega (arith, lt, h.counts, h.within);
   }
 
-  -- a fault behind these bytes
+  -- a fault after these bytes
   pub fault_behind : (e : LineFault) → TakesLineByte limit mid after t u (Err e)
       → LineIs limit before after s u bytes (Err e)
   fault_behind fault.ReadFault q = (

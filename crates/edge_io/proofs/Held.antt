@@ -5,7 +5,7 @@ use Rattle.std.proofs.lemmas.List.{drop-take, drop-drop, length-take-le, drop-ap
 use Rattle.std.proofs.lemmas.List.{take-append-drop}
 use Rattle.std.proofs.Math.Seq.{take-append-add, take-append_seam}
 use Rattle.std.specs.Io.KnownBytes.{Appends}
-use Rattle.texts.specs.Growth.{Told, gathering, Follows, Wrote}
+use Rattle.texts.specs.Growth.{SinkState, gathering, Follows, Wrote}
 use Rattle.texts.proofs.Growth.{wrote_then, passed_more, held_more}
 
 -- what is passed on is what is held back
@@ -14,8 +14,9 @@ pub part_is : (buffer : List ℕ) (at end : ℕ) → at ≤ end
 part_is buffer at end le = let all : at + (end - at) ≡ end = omega arith in
     sym (drop-take at (end - at) buffer) ∙ ap (λ (n : ℕ). drop at (take n buffer)) all
 
--- some bytes more were passed on
-pub held_passed : (name at end n : ℕ) (buffer : List ℕ) (old : Told) (s t : Told) → at ≤ end
+-- some more bytes were passed on
+pub held_passed : (name at end n : ℕ) (buffer : List ℕ) (old : SinkState) (s t : SinkState)
+    → at ≤ end
     → n ≤ length (take (end - at) (drop at buffer))
     → Wrote [] old (gathering name (drop at (take end buffer)) s)
     → Appends s.taken t.taken (take n (take (end - at) (drop at buffer))) → t.faults ≡ s.faults
@@ -28,7 +29,7 @@ held_passed name at end n buffer old s t le most h bytes still lasts follows =
     (passed_more name n (drop at (take end buffer)) s t (rw (← part) most)
     (rw (← part) bytes) still lasts follows))
 
--- bytes that are placed behind the held ones are held
+-- bytes that are placed after the held ones are held
 pub held_placed : (at end : ℕ) (buffer bytes rest : List ℕ) → at ≤ end → end ≤ length buffer
     → drop at (take (end + length bytes) (take end buffer ++ (bytes ++ rest)))
     ≡ drop at (take end buffer) ++ bytes
@@ -42,7 +43,7 @@ held_placed at end buffer bytes rest le within =
     ap (drop at) all ∙ drop-append-le at front bytes (omega (arith, len))
 
 -- some bytes are held back
-pub held_all : (name at end : ℕ) (buffer after bytes rest : List ℕ) (s : Told) → at ≤ end
+pub held_all : (name at end : ℕ) (buffer after bytes rest : List ℕ) (s : SinkState) → at ≤ end
     → end ≤ length buffer → after ≡ take end buffer ++ (bytes ++ rest)
     → Wrote bytes (gathering name (drop at (take end buffer)) s)
     (gathering name (drop at (take (end + length bytes) after)) s)
@@ -52,8 +53,8 @@ held_all name at end buffer after bytes rest s le within is =
     ∙ held_placed at end buffer bytes rest le within in
     rw held (held_more name (drop at (take end buffer)) bytes s)
 
--- a front of some bytes is held back
-pub held_grown : (name at end n : ℕ) (buffer after bytes rest : List ℕ) (s : Told) → at ≤ end
+-- a prefix of some bytes is held back
+pub held_grown : (name at end n : ℕ) (buffer after bytes rest : List ℕ) (s : SinkState) → at ≤ end
     → end ≤ length buffer → n ≤ length bytes → after ≡ take end buffer ++ (take n bytes ++ rest)
     → Wrote (take n bytes) (gathering name (drop at (take end buffer)) s)
     (gathering name (drop at (take (end + n) after)) s)
@@ -66,7 +67,7 @@ held_grown name at end n buffer after bytes rest s le within most is =
     rw held (held_more name (drop at (take end buffer)) (take n bytes) s)
 
 -- bytes are held up to a place
-pub held_to : (name at end to : ℕ) (buffer after bytes : List ℕ) (s : Told) → at ≤ end
+pub held_to : (name at end to : ℕ) (buffer after bytes : List ℕ) (s : SinkState) → at ≤ end
     → end ≤ length buffer → to ≡ end + length bytes → take to after ≡ take end buffer ++ bytes
     → Wrote bytes (gathering name (drop at (take end buffer)) s)
     (gathering name (drop at (take to after)) s)

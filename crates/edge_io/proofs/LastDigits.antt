@@ -17,7 +17,7 @@ set_twice [] i a b = refl
 set_twice (x ∷ xs) zero a b = refl
 set_twice (x ∷ xs) (suc i) a b = ap (λ (l : List ℕ). x ∷ l) (set_twice xs i a b)
 
--- also where another place was set between
+-- also if another place was set between
 set_under : (xs : List ℕ) (i j a x b : ℕ) → set (set (set xs j a) i x) j b ≡ set (set xs i x) j b
 set_under [] i j a x b = refl
 set_under (y ∷ ys) zero zero a x b = refl
@@ -107,7 +107,7 @@ decimal_some n fits = elim (cases_lt n 10) [
   )
 ]
 
--- the digits of a number were placed behind the label
+-- the digits of a number were placed after the label
 pub anew : (old new : List ℕ) (label end n : ℕ) → n < 2 ^ 64 → length old ≡ 32 → length new ≡ 32
     → label ≤ 12 → end ≤ 32 → end ≡ label + length (decimal n)
     → new ≡ take label old ++ (decimal n ++ drop (label + length (decimal n)) old)
@@ -141,7 +141,7 @@ rising_length bytes label last digit n r =
     text_length (set bytes last digit) label (last + 1) n r.text
     ∙ ap (λ (l : List ℕ). length (l ++ decimal n)) (take-set-le label bytes last digit r.behind)
 
--- the text stands where all bytes were placed and the digit was set
+-- the text is there once all bytes are placed and the digit is set
 pub rising_placed : (bytes : List ℕ) (label last digit n : ℕ) → IsRising bytes label last digit n
     → (at : ℕ) (buffer placed after rest : List ℕ) → at ≤ length buffer
     → placed ≡ take at buffer ++ (bytes ++ rest) → after ≡ set placed (at + last) digit

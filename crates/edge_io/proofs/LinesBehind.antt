@@ -1,4 +1,4 @@
--- What reading the line behind the last one did.
+-- What reading the line after the last one did.
 use Rattle.std.proofs.Common.{◌≡◌, inr, ℕ, ◌+◌, ◌≤◌, true, false, eqb, not, List, [], ◌∷◌, ◌++◌}
 use Rattle.std.proofs.Common.{length, Option, Ok, Err, refl, ap, ◌∙◌, append_assoc, append-nil}
 use Rattle.std.proofs.Common.{length-append, arith}
@@ -99,7 +99,7 @@ module _ (limit before after : ℕ) (old new : Option (List ℕ)) (line : List �
             };
       }
 
-  -- a byte behind the limit
+  -- a byte after the limit
   pub beyond_behind : before ≤ limit → LineIs limit before after old new line (Err fault.TooLong)
       → LineBeyond limit before old new
   beyond_behind room (b, read, past, count) =

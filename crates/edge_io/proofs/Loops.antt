@@ -7,17 +7,17 @@ use Rattle.std.proofs.KnownBytes.{Consumes-kept, Consumes-trans}
 use Rattle.texts.specs.Causes.{Counted}
 use Rattle.edge_io.specs.Reading.{LosesFront, LosesWithin, LosesMore}
 use Rattle.std.proofs.lemmas.List.{take-append-drop, take_rest, length-take-le}
-use Rattle.texts.specs.Growth.{Told, Follows, Wrote, Cut, IsMissed, arrived}
+use Rattle.texts.specs.Growth.{SinkState, Follows, Wrote, Cut, IsMissed, arrived}
 use Rattle.texts.proofs.Growth.{wrote_none, wrote_then, cut_then, kept_is}
 
--- so far a front of the text was written
-pub record Putting (text rest : List ℕ) (old now : Told) : Type 0 where
+-- so far a prefix of the text was written
+pub record Putting (text rest : List ℕ) (old now : SinkState) : Type 0 where
   pub done : List ℕ
   pub parts : text ≡ done ++ rest
   pub wrote : Wrote done old now
 
 -- some more bytes were written
-pub put_more : (text rest : List ℕ) (n : ℕ) (old mid new : Told) → n ≤ length rest
+pub put_more : (text rest : List ℕ) (n : ℕ) (old mid new : SinkState) → n ≤ length rest
     → Putting text rest old mid → Appends mid.taken new.taken (take n rest)
     → new.faults ≡ mid.faults → mid.certain ≤ new.certain + n → Follows mid new
     → Putting text (take (length rest - n) (drop n rest)) old new
@@ -35,11 +35,11 @@ put_more text rest n old mid new most p bytes still lasts follows = record {
 }
 
 -- nothing was written yet
-pub put_none : (text : List ℕ) (s : Told) → Putting text text s s
+pub put_none : (text : List ℕ) (s : SinkState) → Putting text text s s
 put_none text s = record { done = []; parts = refl; wrote = wrote_none s }
 
 -- a write failed
-pub put_cut : (text rest : List ℕ) (old mid new : Told) → Putting text rest old mid
+pub put_cut : (text rest : List ℕ) (old mid new : SinkState) → Putting text rest old mid
     → Keeps mid.taken new.taken → Counted mid.faults new.faults → mid.certain ≤ length rest
     → Follows mid new → IsMissed mid.taken (arrived new) rest → Cut text old new
 put_cut text rest old mid new p keeps cause uncertain follows missed =
@@ -62,14 +62,14 @@ pub lost_before : (old mid new : Option (List ℕ)) (bytes : List ℕ) → Consu
 lost_before old mid new bytes read keeps =
     record { front = bytes; read = Consumes-kept old mid new bytes read keeps }
 
--- and then at most the limit were read
+-- and then no more than the limit was read
 pub lost_within : (limit : ℕ) (old mid new : Option (List ℕ)) (bytes : List ℕ)
     → Consumes old mid bytes
     → Keeps mid new → length bytes ≤ limit → LosesWithin limit old new
 lost_within limit old mid new bytes read keeps short =
     record { front = bytes; read = Consumes-kept old mid new bytes read keeps; within = short }
 
--- so too where the bytes of one read more are within it
+-- so too if the bytes of one more read are within it
 pub kept_within : (limit : ℕ) (old mid new : Option (List ℕ)) (bytes piece : List ℕ) (count : ℕ)
     → Consumes old mid bytes → Consumes mid new (take count piece) → count ≤ length piece
     → length bytes ≤ limit → count ≤ limit - length bytes → LosesWithin limit old new
@@ -85,13 +85,13 @@ kept_within limit old mid new bytes piece count read then most short fits = reco
   );
 }
 
--- some bytes more were read
+-- some more bytes were read
 pub lost_with : (old mid new : Option (List ℕ)) (bytes more : List ℕ) → Consumes old mid bytes
     → Consumes mid new more → LosesFront old new
 lost_with old mid new bytes more read then =
     record { front = bytes ++ more; read = Consumes-trans old mid new bytes more read then }
 
--- with those bytes more, more than the limit were read
+-- with those bytes, more than the limit was read
 pub lost_past : (limit : ℕ) (old mid new : Option (List ℕ)) (bytes piece : List ℕ) (count : ℕ)
     → Consumes old mid bytes → Consumes mid new (take count piece) → count ≤ length piece
     → length piece ≡ 4096 → length bytes ≤ limit → limit - length bytes < count

@@ -35,7 +35,7 @@ module _ {S V R : Type 0} (step : S → List ℕ → Next S V R) (form : R) (sta
   alone_behind number room value [] h = tt
   alone_behind number room value (line ∷ lines) h = omega (arith, h)
 
-  -- the part is refused, or ends, behind the whole lines
+  -- the part is refused, or ends, after the whole lines
   then_behind : (r : Result (Found (Option ℕ × V)) (At (Limited R))) → IsBehind 1 whole r
       → RefusedBehind whole (then_alone step form (bytes ++ rest) r)
   then_behind (Ok found) h =
@@ -52,7 +52,7 @@ module _ {S V R : Type 0} (step : S → List ℕ → Next S V R) (form : R) (sta
       (lines_of (behind_lines found.taken (bytes ++ rest))) (omega (arith, h, most))
   then_alone_behind taken most (Err at) h = absurd h
 
-  -- where the part ended so far, nothing but the open line stands behind
+  -- if the part ended so far, nothing but the open line stands after it
   taken_all : (found : Found (Option ℕ × V)) (lines : List (List ℕ))
       → lines_of (behind_lines found.taken bytes) ≡ lines
       → RefusedOnlyAt (1 + whole) form

@@ -8,7 +8,7 @@ use Rattle.std.proofs.lemmas.Fmt.{decimal_digit, decimal_step}
 use Rattle.std.proofs.Math.Seq.{take-append_seam, take-append-add, get_or-append_seam}
 use Rattle.edge_io.specs.Rising.{IsText}
 
--- A number's text ends in its last digit, and where that is no nine, the next number's text is the
+-- A number's text ends in its last digit, and if that is no nine, the next number's text is the
 -- same but for that digit.
 record EndsInDigit (n : ℕ) : Type 0 where
   pub front : List ℕ
@@ -131,7 +131,7 @@ tens_text bytes label end n t long fits room =
       last_byte bytes front digit end room is,
     )
 
--- a zero behind the text makes the number ten times as large
+-- a zero after the text makes the number ten times as large
 pub zero_behind : (bytes : List ℕ) (label at end m n : ℕ) → IsText bytes label at m → end ≡ at + 1
     → label ≤ at → end ≤ 32 → 0 < m → n ≡ 10 * m → n < 2 ^ 64
     → IsText (set bytes at 48) label end n
@@ -189,7 +189,7 @@ pub text_length : (bytes : List ℕ) (label end n : ℕ) → IsText bytes label 
 text_length bytes label end n t =
     sym (length-take-le end bytes (omega (arith, t.size, t.room))) ∙ ap length t.text
 
--- the text stands where all bytes were placed
+-- the text is there once all bytes are placed
 pub text_placed : (bytes : List ℕ) (label end n : ℕ) → IsText bytes label end n
     → (at : ℕ) (buffer after rest : List ℕ) → at ≤ length buffer
     → after ≡ take at buffer ++ (bytes ++ rest)

@@ -47,13 +47,13 @@ module _ {S V R : Type 0} (step : S → List ℕ → Next S V R) (form : R) (sta
 
   module _ (now : Option (List ℕ)) (s : S) (number lines counted : ℕ)
       (stands : Standing now s number lines counted) where
-    -- where a line is open behind them, as many lines are whole
+    -- if a line is open after them, as many lines are whole
     pub open_counts : (line : List ℕ) → is_one_line line ≡ true
         → length (whole_lines (stands.bytes ++ line)) ≡ lines + 0
     open_counts line one =
         stands.counts line ∙ ap (λ (ls : List (List ℕ)). lines + length ls) (whole_open line one)
 
-    -- and that line stands behind the last newline
+    -- and that line stands after the last newline
     pub open_is : (line : List ℕ) → is_one_line line ≡ true
         → open_rest (stands.bytes ++ line) ≡ line
     open_is line one =
@@ -97,7 +97,7 @@ module _ {S V R : Type 0} (step : S → List ℕ → Next S V R) (form : R) (sta
         subst (λ (l : List ℕ). PartPending step form start first limit before l)
         (append-nil stands.bytes) (pending [] refl (omega arith) (omega (arith, stands.within)))
 
-    -- and with a byte more, all but the last do not
+    -- and with one more byte, all but the last do not
     pub but_last : (line : List ℕ) (b : ℕ) → is_one_line line ≡ true → length line ≤ 4096
         → counted + length line ≤ limit
         → AllButLast (λ bs. PartPending step form start first limit before bs)

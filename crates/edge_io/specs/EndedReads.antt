@@ -1,4 +1,4 @@
--- What reading a text whose lines all end with a newline, from its front to its end, did.
+-- What reading a text whose lines all end with a newline, from its beginning to its end, did.
 use Rattle.std.specs.Prelude.{◌≡◌, ℕ, ◌+◌, ◌-◌, ◌<◌, ◌≤◌, List, ◌∷◌, ◌++◌, length, Bool, true}
 use Rattle.std.specs.Prelude.{false, Option, Result, Ok, Err}
 use Rattle.std.specs.Io.KnownBytes.{Consumes, Keeps, IsAtEnd}
@@ -17,8 +17,8 @@ RefusedOnlyAt line form (Ok value) = Unit {0}
 RefusedOnlyAt line form (Err at) = at ≡ record { line = line; rule = by form }
 
 module _ {S V R : Type 0} (step : S → List ℕ → Next S V R) (form : R) where
-  -- These bytes do not show what decides the text: if it ended behind them, it would be whole, or
-  -- be refused at the line that is open, and so at none of their whole lines.
+  -- These bytes do not show what decides the text: if it ended after them, it would be whole, or be
+  -- refused at the line that is open, and so at none of their whole lines.
   pub record TextPending (start : S) (limit : ℕ) (bytes : List ℕ) : Type 0 where
     pub lines : RefusedOnlyAt (1 + length (whole_lines bytes)) form
         (ended_text step form start limit false bytes)
@@ -47,7 +47,7 @@ module _ {S V R : Type 0} (step : S → List ℕ → Next S V R) (form : R) wher
         → ended_text step form start limit longer (bytes ++ rest)
         ≡ Err (record { line = line; rule = by rule })
 
-  -- these bytes were read, one of them behind the limit, and do not show what decides the text
+  -- these bytes were read, one of them after the limit, and do not show what decides the text
   pub record LongText (start : S) (limit : ℕ) (old new : Option (List ℕ)) : Type 0 where
     pub bytes : List ℕ
     pub line : ℕ
@@ -103,7 +103,7 @@ pub record LineBehind (limit before : ℕ) (old new : Option (List ℕ)) : Type 
   pub shown : (longer : Bool) (rest : List ℕ) → MayFollow ended longer rest
       → FirstIs true (room_of longer (limit - before)) (lines_of (bytes ++ rest))
 
--- these bytes were read of a line, one of them behind the limit, and don't show it
+-- these bytes were read of a line, one of them after the limit, and don't show it
 pub record LineBeyond (limit before : ℕ) (old new : Option (List ℕ)) : Type 0 where
   pub bytes : List ℕ
   pub read : Consumes old new bytes
@@ -112,7 +112,7 @@ pub record LineBeyond (limit before : ℕ) (old new : Option (List ℕ)) : Type 
   pub hidden : (rest : List ℕ)
       → FirstIs false (room_of true (limit - before)) (lines_of (bytes ++ rest))
 
--- what looking for the end behind the last line did, where so many bytes were read before
+-- what looking for the end after the last line did, if so many bytes were read before
 abbrev pub EndIs : {R : Type 0} → (form : R) (number limit before : ℕ) (old new : Option (List ℕ))
     → Result Unit (FedError R) → Type 0
 EndIs form number limit before old new (Ok x) = Keeps old new × IsAtEnd new

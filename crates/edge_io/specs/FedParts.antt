@@ -11,26 +11,26 @@ use Rattle.edge_io.specs.declared.fed_parts.FedPart.{FedPart}
 use Rattle.edge_io.specs.declared.fed_parts.FedError.{FedError}
 use Rattle.edge_io.specs.declared.fed_parts.FedError.TheVariants as fed
 
--- what becomes of a part within a limit: its value, with the room behind it, or a refusal
+-- what becomes of a part within a limit: its value, with the room after it, or a refusal
 abbrev pub LimitedPart : (V R : Type 0) → Type 0
 LimitedPart V R = Result (Found (Option ℕ × V)) (At (Limited R))
 
--- What may follow bytes that were read: anything, unless the end was met behind them; then the text
+-- What may follow bytes that were read: anything, unless the end was met after them; then the text
 -- is not longer than its limit either.
 abbrev pub MayFollow : (ended longer : Bool) → List ℕ → Type 0
 MayFollow true longer rest = (rest ≡ []) × (longer ≡ false)
 MayFollow false longer rest = Unit {0}
 
 -- Of a part whose step takes every line, skipped and long ones too, and which is refused by `form`
--- where it lacks its end.
+-- if it lacks its end.
 module _ {S V R : Type 0} (step : S → List ℕ → Next S V R) (form : R) where
   -- the part of a text within a limit
   abbrev pub limited_part : S → (taken number : ℕ) → Option ℕ → List (List ℕ) → LimitedPart V R
   limited_part s taken number room lines =
       part_from (with_limit step) (by form) (room, s) taken number lines
 
-  -- the part from its start on, where lines of so many bytes were read before, and the text has a
-  -- byte behind the limit or not
+  -- the part from its start on, if lines of so many bytes were read before, and the text has a byte
+  -- after the limit or not
   abbrev pub fed_part : S → (first limit before : ℕ) → (longer : Bool) → List (List ℕ)
       → LimitedPart V R
   fed_part start first limit before longer lines =
@@ -58,7 +58,7 @@ module _ {S V R : Type 0} (step : S → List ℕ → Next S V R) (form : R) wher
         → fed_part start first limit before longer (lines_of (bytes ++ rest))
         ≡ outcome (room_of longer (limit - after)) rest
 
-  -- these bytes were read, one of them behind the limit, and do not show what decides the part
+  -- these bytes were read, one of them after the limit, and do not show what decides the part
   pub record Undecided (start : S) (first limit before : ℕ)
       (old new : Option (List ℕ)) : Type 0 where
     pub bytes : List ℕ
@@ -70,7 +70,7 @@ module _ {S V R : Type 0} (step : S → List ℕ → Next S V R) (form : R) wher
         → fed_part start first limit before true (lines_of (bytes ++ rest))
         ≡ Err (record { line = line; rule = beyond })
 
-  -- what is decided where a part ends with this value, and where a line of it is refused
+  -- what is decided if a part ends with this value, and if a line of it is refused
   abbrev pub ends_with : V → (taken : ℕ) → Option ℕ → List ℕ → LimitedPart V R
   ends_with value taken room rest =
       Ok (record { value = (room, value); taken = taken; behind = lines_of rest })

@@ -36,7 +36,7 @@ TakesByte old new (Ok None) = IsAtEnd new × Keeps old new
 TakesByte old new (Ok (Some b)) = Consumes old new (b ∷ [])
 TakesByte old new (Err e) = Keeps old new
 
--- What reading a byte of a line did, where the lines had so many bytes before and after. A count of
+-- What reading a byte of a line did, if the lines had so many bytes before and after. A count of
 -- bytes stands still at 2 ^ 64 - 1.
 abbrev pub TakesLineByte : (limit before after : ℕ) → (old new : Option (List ℕ))
     → Result (Option ℕ) LineFault → Type 0
@@ -54,9 +54,9 @@ HasLineCause before now Dry (Ok x) = now ≡ before
 HasLineCause before now Dry (Err fault.ReadFault) = Counted before now × Dry
 HasLineCause before now Dry (Err fault.TooLong) = now ≡ before
 
--- What reading a line did: these bytes of it, without the newline, were read, where the lines had
--- so many bytes before and after, newlines included. Only at `TooLong` is a byte behind the limit
--- read, and then just one.
+-- What reading a line did: these bytes of it, without the newline, were read, if the lines had so
+-- many bytes before and after, newlines included. Only at `TooLong` is a byte after the limit read,
+-- and then just one.
 abbrev pub LineIs : (limit before after : ℕ) → (old new : Option (List ℕ)) → List ℕ
     → Result Line LineFault → Type 0
 LineIs limit before after old new bytes (Ok line.Whole) =

@@ -3,7 +3,7 @@ use Rattle.std.specs.Prelude.{ℕ, ◌+◌, List, [], ◌∷◌, Option, Some, N
 use Rattle.std.specs.Borrow.{Bor}
 use Rattle.texts.specs.Lines.{words_of}
 
--- the words of what stands behind the last space, where there is one
+-- the words of what stands after the last space, if there is one
 abbrev pub words_left : Option (Bor (List ℕ)) → List (List ℕ)
 words_left None = []
 words_left (Some rest) = words_of rest.now

@@ -5,6 +5,7 @@ pub mod Gathering
 pub mod HeldLines
 pub mod Items
 pub mod Memory
+pub mod PartAnswers
 pub mod PendingLaws
 pub mod Pieces
 pub mod Reading
@@ -12,3 +13,4 @@ pub mod Real
 pub mod Rising
 pub mod Taking
 pub mod Whole
+pub mod Writing

@@ -7,7 +7,7 @@ use Rattle.texts.specs.EndedTexts.{ended_text}
 use Rattle.edge_io.specs.FedParts.{fed_part, PartPending}
 use Rattle.edge_io.specs.EndedReads.{TextPending}
 
--- whatever follows them, the part ends, or is refused, at a line behind their whole lines
+-- whatever follows them, the part ends, or is refused, at a line after their whole lines
 abbrev pub PendingPartGoesOn : (S V R : Type 0) → Type 0
 PendingPartGoesOn S V R =
     (step : S → List ℕ → Next S V R) (form : R) (start : S) (first limit before : ℕ)
@@ -16,7 +16,7 @@ PendingPartGoesOn S V R =
     → IsBehind first (length (whole_lines bytes))
     (fed_part step form start first limit before longer (lines_of (bytes ++ rest)))
 
--- a text is not refused, or is at a line behind so many
+-- a text is not refused, or is at a line after so many
 abbrev pub RefusedBehind : {V R : Type 0} → ℕ → Result V (At R) → Type 0
 RefusedBehind lines (Ok value) = Unit {0}
 RefusedBehind lines (Err at) = lines < at.line

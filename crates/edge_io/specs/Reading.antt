@@ -3,18 +3,18 @@ use Rattle.std.specs.Prelude.{◌≡◌, ℕ, ◌+◌, ◌<◌, ◌≤◌, lengt
 use Rattle.std.specs.Prelude.{MatchResult}
 use Rattle.std.specs.Io.KnownBytes.{Consumes}
 
--- some bytes at the front were read, and those behind them are left
+-- some bytes at the beginning were read, and those after them are left
 pub record LosesFront (old new : Option (List ℕ)) : Type 0 where
   pub front : List ℕ
   pub read : Consumes old new front
 
--- at most so many bytes at the front were read, and those behind them are left
+-- at most so many bytes at the beginning were read, and those after them are left
 pub record LosesWithin (limit : ℕ) (old new : Option (List ℕ)) : Type 0 where
   pub front : List ℕ
   pub read : Consumes old new front
   pub within : length front ≤ limit
 
--- more bytes than that at the front were read, up to 4096 more, and those behind them are left
+-- more bytes than that at the beginning were read, up to 4096 more, and those after them are left
 pub record LosesMore (limit : ℕ) (old new : Option (List ℕ)) : Type 0 where
   pub front : List ℕ
   pub read : Consumes old new front

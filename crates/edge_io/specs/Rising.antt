@@ -1,4 +1,4 @@
--- A number behind a label.
+-- A number after a label.
 use Rattle.std.specs.Prelude.{◌≡◌, ℕ, ◌+◌, ◌≤◌, List, ◌++◌, length, take, decimal, slice_set}
 
 pub record Labelled : Type 0 where
@@ -16,7 +16,7 @@ pub record IsText (bytes : List ℕ) (label end value : ℕ) : Type 0 where
   pub room : end ≤ 32
   pub text : take end bytes ≡ take label bytes ++ decimal value
 
--- with this digit at place `last` the bytes are such a text, which ends behind it
+-- with this digit at place `last` the bytes are such a text, which ends after it
 pub record IsRising (bytes : List ℕ) (label last digit value : ℕ) : Type 0 where
   pub size : length bytes ≡ 32
   pub behind : label ≤ last

@@ -32,14 +32,14 @@ pub enum FedError<R> {
     NoMemory,
 }
 
-/// Reads a part from a feed, line by line, and no byte behind its last line. The first line has the
+/// Reads a part from a feed, line by line, and no byte after its last line. The first line has the
 /// number `first`, and all lines that were read of the feed may have `limit` bytes.
 ///
-/// `Refused` comes exactly where `read_part` refuses a line of the same text, at a line that is
-/// shown within the limit; `TooLong` exactly where the byte behind the limit was read first.
-/// `ReadFault` comes only where the source counted one fault and its end was not met, and
-/// `NoMemory` where the reader ran out of memory. What decides is the last byte that was read, with
-/// which a line shows, or the end; at `ReadFault` nothing does.
+/// `Refused` comes exactly if `read_part` refuses a line of the same text, at a line that is shown
+/// within the limit; `TooLong` exactly if the byte after the limit was read first. `ReadFault`
+/// comes only if the source counted one fault and its end was not met, and `NoMemory` if the reader
+/// ran out of memory. What decides is the last byte that was read, with which a line shows, or the
+/// end; at `ReadFault` nothing does.
 pub fn feed_part<S: Source, P: LineReader>(
     feed: &mut Feed<'_, S>,
     line: &mut LineBuf,
@@ -91,7 +91,7 @@ pub fn feed_part<S: Source, P: LineReader>(
 }
 
 /// The refusal of a line.
-pub(crate) fn refused<R>(line: u64, rule: R) -> FedError<R>
+fn refused<R>(line: u64, rule: R) -> FedError<R>
     ensures { result ≡ fed.Refused (record { line = line; rule = rule }) }
 {
     FedError::Refused(Refused { line, rule })

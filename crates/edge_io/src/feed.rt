@@ -13,7 +13,7 @@ const NEWLINE: u8 = b'\n';
 pub enum Line {
     /// At its newline.
     Whole,
-    /// At the end of the input, behind at least one byte of it.
+    /// At the end of the input, after at least one byte of it.
     Open,
     /// At byte 4097, which is no newline. The rest of the line is unread.
     Long,
@@ -34,7 +34,7 @@ pub enum LineFault {
 
 /// A source that is read byte by byte and line by line, through a buffer of 4096 bytes.
 ///
-/// The source is asked for more only where the buffer is empty.
+/// The source is asked for more only if the buffer is empty.
 #[derive(Drop)]
 pub struct Feed<'a, S> {
     source: &'a mut S,
@@ -115,7 +115,7 @@ impl<'a, S: Source> Feed<'a, S> {
         self.line_bytes += count as u64;
     }
 
-    /// Sees that a byte is in the buffer, where one is left.
+    /// Gets a byte into the buffer, if one is left.
     fn fill(&mut self) -> Result<bool, ReadFault>
         ensures same_reference { self.new.source.ghost_name ≡ self.old.source.ghost_name }
         ensures left { Keeps (feed_left S.left self.old) (feed_left S.left self.new) }
@@ -140,10 +140,10 @@ impl<'a, S: Source> Feed<'a, S> {
         Ok(count > 0)
     }
 
-    /// The next byte, None at the end.
+    /// The next byte, or None at the end.
     ///
-    /// `ReadFault` comes only where the source counted one fault. The feed is then as before, and
-    /// its buffer is empty: all bytes that the source gave were read, and its end was not met.
+    /// `ReadFault` comes only if the source counted one fault. The feed is then as before, and its
+    /// buffer is empty: all bytes that the source gave were read, and its end was not met.
     pub fn byte(&mut self) -> Result<Option<u8>, ReadFault>
         ensures same_reference { self.new.source.ghost_name ≡ self.old.source.ghost_name }
         ensures bytes { TakesByte (feed_left S.left self.old) (feed_left S.left self.new) result }
@@ -164,7 +164,7 @@ impl<'a, S: Source> Feed<'a, S> {
         Ok(Some(byte))
     }
 
-    /// The next byte of a line, where all lines so far may have `limit` bytes.
+    /// The next byte of a line, if all lines so far may have `limit` bytes.
     fn line_byte(&mut self, limit: u64) -> Result<Option<u8>, LineFault>
         ensures same_reference { self.new.source.ghost_name ≡ self.old.source.ghost_name }
         ensures bytes { TakesLineByte limit self.old.line_bytes self.new.line_bytes
@@ -187,7 +187,7 @@ impl<'a, S: Source> Feed<'a, S> {
         Ok(Some(byte))
     }
 
-    /// Takes the next line where all of it stands in the buffer and within the limit. Else nothing
+    /// Takes the next line if all of it stands in the buffer and within the limit. Else nothing
     /// changes.
     fn take_held(&mut self, line: &mut LineBuf, limit: u64) -> bool
         requires { line.old ≡ [] }
@@ -208,7 +208,7 @@ impl<'a, S: Source> Feed<'a, S> {
         }
     }
 
-    /// Fills `bytes` where all of them stand in the buffer. Else nothing changes.
+    /// Fills `bytes` if all of them stand in the buffer. Else nothing changes.
     pub(crate) fn take_held_bytes(&mut self, bytes: &mut [u8]) -> bool
         ensures taken { result ≡ true
             → Consumes (feed_left S.left self.old) (feed_left S.left self.new) bytes.new }
@@ -227,13 +227,13 @@ impl<'a, S: Source> Feed<'a, S> {
         true
     }
 
-    /// Reads a line, without its newline, where all lines so far may have `limit` bytes, newlines
+    /// Reads a line, without its newline, if all lines so far may have `limit` bytes, newlines
     /// included.
     ///
-    /// `TooLong` comes exactly where the byte behind the limit was read; it is tested at each byte
+    /// `TooLong` comes exactly if the byte after the limit was read; it is tested at each byte
     /// before its newline or its byte 4097 is seen, and comes again at each later byte. `ReadFault`
-    /// comes only where the source counted one fault; all bytes that the source gave were then
-    /// read, and none behind the limit.
+    /// comes only if the source counted one fault; all bytes that the source gave were then read,
+    /// and none after the limit.
     pub fn line(&mut self, line: &mut LineBuf, limit: u64) -> Result<Line, LineFault>
         ensures same_reference { self.new.source.ghost_name ≡ self.old.source.ghost_name }
         ensures line { LineIs limit self.old.line_bytes self.new.line_bytes

@@ -4,11 +4,9 @@ ghost use Rattle.edge_io.specs.Feeds.{feed_left, ReadsSoMany, Fills, IsDry};
 
 use crate::{Feed, ReadFault, Source};
 
-/// Reads `count` bytes and keeps none: true where they were there, false where the input ended
-/// before.
+/// Reads `count` bytes and keeps none: true if they were there, false if the input ended before.
 ///
-/// `ReadFault` comes only where the source counted one fault; all bytes that it gave were then
-/// read.
+/// `ReadFault` comes only if the source counted one fault; all bytes that it gave were then read.
 pub fn skip_bytes<S: Source>(feed: &mut Feed<'_, S>, count: usize) -> Result<bool, ReadFault>
     ensures same_reference { feed.new.source.ghost_name ≡ feed.old.source.ghost_name }
     ensures bytes { (bytes : List ℕ)
@@ -29,10 +27,9 @@ pub fn skip_bytes<S: Source>(feed: &mut Feed<'_, S>, count: usize) -> Result<boo
     Ok(true)
 }
 
-/// Fills a buffer: true where so many bytes were there, false where the input ended before.
+/// Fills a buffer: true if so many bytes were there, false if the input ended before.
 ///
-/// `ReadFault` comes only where the source counted one fault; all bytes that it gave were then
-/// read.
+/// `ReadFault` comes only if the source counted one fault; all bytes that it gave were then read.
 pub fn take_bytes<S: Source>(feed: &mut Feed<'_, S>, buf: &mut [u8]) -> Result<bool, ReadFault>
     ensures same_reference { feed.new.source.ghost_name ≡ feed.old.source.ghost_name }
     ensures bytes { Fills (feed_left S.left feed.old) (feed_left S.left feed.new) buf.old buf.new

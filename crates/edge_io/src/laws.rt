@@ -20,7 +20,7 @@ pub fn numbers_have_one_word()
 {}
 
 /// Pending bytes do not show what decides: whatever follows them, a part ends or is refused at a
-/// line behind their whole lines, and a text is refused at none of these.
+/// line after their whole lines, and a text is refused at none of these.
 pub fn pending_bytes_decide_nothing<S, V, R>()
     ensures part { PendingPartGoesOn S V R }
     ensures text { PendingTextGoesOn S V R }

@@ -8,7 +8,7 @@ pub struct LineBuf {
     bytes: Vec<u8>,
 }
 
-// Written out, so that what lets go of one calls this, and no more.
+// Written out, so that code that drops one has a single call.
 impl Drop for LineBuf {
     fn drop(self) {
         let LineBuf { bytes } = self;
@@ -31,7 +31,7 @@ impl LineBuf {
     ghost use Rattle.std.specs.Prelude.{IfOk, IfSome};
     ghost use Rattle.edge_io.specs.HeldLines.{IsLineOf};
 
-    /// An empty line. It takes all memory that it ever needs; `NoMemory` comes where there is none.
+    /// An empty line. It takes all memory that it ever needs; `NoMemory` comes if there is none.
     pub fn new(alloc: Global) -> Result<LineBuf, NoMemory>
         ensures { IfOk result (λ line. line ≡ []) }
     {
@@ -74,7 +74,7 @@ impl LineBuf {
         self.bytes.extend_from_slice(bytes).unwrap();
     }
 
-    /// Takes the bytes before the first newline, where there is one and with it they are at most
+    /// Takes the bytes before the first newline, if there is one and with it they are at most
     /// `most`, and answers how many these are. The line is empty before, and else stays so.
     pub(crate) fn copy_line(&mut self, bytes: &[u8], most: u64) -> Option<usize>
         requires empty { self.old ≡ [] }

@@ -24,8 +24,8 @@ fn space_in(line: &[u8]) -> Option<usize>
     line.iter().position(|byte| *byte == SPACE)
 }
 
-/// The first line of a text that is not empty, without its newline, and what stands behind that.
-/// The text's end ends a line too.
+/// The first line of a text that is not empty, without its newline, and what stands after that. The
+/// text's end ends a line too.
 pub fn first_line(text: &[u8]) -> (&[u8], &[u8])
     requires { 0 < length text.now }
     ensures line { lines_of text.now ≡ result.0.now ∷ lines_of result.1.now }
@@ -38,7 +38,7 @@ pub fn first_line(text: &[u8]) -> (&[u8], &[u8])
     }
 }
 
-/// The first word of a line, and what stands behind the space after it.
+/// The first word of a line, and what stands after the space that ends it.
 fn first_word(line: &[u8]) -> (&[u8], Option<&[u8]>)
     ensures word { words_of line.now ≡ result.0.now ∷ words_left result.1 }
 {
@@ -85,7 +85,7 @@ impl<'a> Iterator for Words<'a> {
     }
 }
 
-/// The lines of a text without their newlines, each with its number. An empty rest behind the last
+/// The lines of a text without their newlines, each with its number. An empty rest after the last
 /// newline is no line.
 #[derive(Drop)]
 pub struct Lines<'a> {

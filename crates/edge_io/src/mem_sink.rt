@@ -1,5 +1,5 @@
 ghost use Rattle.std.specs.Prelude.{◌≤◌, vec_len, vec_capacity, All};
-ghost use Rattle.edge_io.specs.Memory.{SinkState};
+ghost use Rattle.edge_io.specs.Memory.{MemSinkState};
 
 use crate::cuts::cut;
 use crate::{Failed, Sink};
@@ -12,7 +12,7 @@ use thiserror::Error;
 #[error("out of memory")]
 pub struct NoMemory;
 
-/// Room in memory that is filled in pieces of given sizes, where given calls fail.
+/// Room in memory that is filled in pieces of given sizes; given calls fail.
 pub struct MemSink {
     taken: Vec<u8>,
     room: usize,
@@ -23,7 +23,7 @@ pub struct MemSink {
     faults: u64,
 }
 
-// Written out, so that what lets go of one calls this, and no more.
+// Written out, so that code that drops one has a single call.
 impl Drop for MemSink {
     fn drop(self) {
         let MemSink {
@@ -42,7 +42,7 @@ impl Drop for MemSink {
 }
 
 impl Model for MemSink {
-    ghost Value = { SinkState };
+    ghost Value = { MemSinkState };
 
     ghost view = { λ s. record {
       taken = s.taken.items;
@@ -65,7 +65,7 @@ impl MemSink {
     /// whose numbers are in `fails` fail, counted from 1, the number standing still at 2^64 - 1.
     ///
     /// The sizes in `cuts`, each at least 1, are used round and round: each call that takes bytes
-    /// takes no more than the next of them. Where the list is empty nothing is cut.
+    /// takes no more than the next of them. If the list is empty, nothing is cut.
     pub fn new(
         alloc: Global,
         room: usize,
@@ -118,7 +118,7 @@ impl Sink for MemSink {
     ghost told = { λ s. memory_told s };
 
     /// Takes as many bytes as the piece, the room that is left and the next cut allow. `Failed`
-    /// comes exactly at the listed calls and where no room is left.
+    /// comes exactly at the listed calls and if no room is left.
     fn write(&mut self, bytes: &[u8]) -> Result<usize, Failed>
         requires { 0 < length bytes.now }
         ensures some { IfOk result (λ n. 0 < n) }

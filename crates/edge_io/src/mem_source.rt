@@ -1,11 +1,11 @@
 ghost use Rattle.std.specs.Prelude.{◌≤◌, drop, vec_len, All};
-ghost use Rattle.edge_io.specs.Memory.{SourceState};
+ghost use Rattle.edge_io.specs.Memory.{MemSourceState};
 
 use crate::cuts::cut;
 use crate::{Failed, Source};
 use std::marker::Model;
 
-/// Bytes in memory that are read in pieces of given sizes, where given calls fail.
+/// Bytes in memory that are read in pieces of given sizes; given calls fail.
 pub struct MemSource {
     bytes: Vec<u8>,
     at: usize,
@@ -17,7 +17,7 @@ pub struct MemSource {
     met: bool,
 }
 
-// Written out, so that what lets go of one calls this, and no more.
+// Written out, so that code that drops one has a single call.
 impl Drop for MemSource {
     fn drop(self) {
         let MemSource {
@@ -37,7 +37,7 @@ impl Drop for MemSource {
 }
 
 impl Model for MemSource {
-    ghost Value = { SourceState };
+    ghost Value = { MemSourceState };
 
     ghost view = { λ s. record {
       left = drop s.at s.bytes.items;
@@ -60,7 +60,7 @@ impl MemSource {
     /// number standing still at 2^64 - 1.
     ///
     /// The sizes in `cuts`, each at least 1, are used round and round: each call that reads bytes
-    /// reads no more than the next of them. Where the list is empty nothing is cut.
+    /// reads no more than the next of them. If the list is empty, nothing is cut.
     pub fn new(bytes: Vec<u8>, fails: Vec<u64>, cuts: Vec<usize>) -> MemSource
         requires { All (λ size. 1 ≤ size) cuts.items }
         ensures { result ≡ record {

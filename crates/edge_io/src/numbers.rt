@@ -9,7 +9,7 @@ use itoa::Buffer;
 const MOST_DIGITS: usize = 15;
 
 /// The number that a word writes in decimal: 1 to 15 digits, with no leading zero but in `0`
-/// itself. None exactly where the word is no number.
+/// itself. None exactly if the word is no number.
 pub fn number(word: &[u8]) -> Option<u64>
     ensures { result ≡ number_of word.now }
 {
@@ -31,7 +31,7 @@ pub fn number(word: &[u8]) -> Option<u64>
 
 /// Writes a number in decimal.
 ///
-/// `WriteFault` comes only where the sink counted one fault, which ended the call; a front of the
+/// `WriteFault` comes only if the sink counted one fault, which ended the call; a prefix of the
 /// digits was then taken, and not all of them came through.
 pub fn put_number<K: Sink>(sink: &mut K, value: u64) -> Result<(), WriteFault>
     ensures { Puts result (decimal value) (K.told sink.old) (K.told sink.new) }

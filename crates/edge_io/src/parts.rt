@@ -1,7 +1,7 @@
 ghost use Rattle.std.specs.Prelude.{◌≡◌, ◌≤◌, ◌<◌, ◌+◌, ◌^◌, List, ℕ, length, drop, MatchResult};
 ghost use Rattle.std.specs.Prelude.{IfOk, Ok};
 ghost use Rattle.texts.specs.Lines.{lines_of, is_well_parted, has_empty_word, words_of};
-ghost use Rattle.edge_io.specs.Taking.{Takes, FailsAt};
+ghost use Rattle.edge_io.specs.Taking.{Takes, FailsAsDefined};
 ghost use Rattle.texts.specs.Parts.{Next, is_skipped, with_skips, part_from};
 
 use crate::{PartError, Refused, TakeError, Words, first_line};
@@ -14,7 +14,7 @@ pub const LONGEST_LINE: usize = 4096;
 pub struct PartRead<V> {
     /// What was read.
     pub value: V,
-    /// How many bytes of the text stand through the part's last line, its newline included.
+    /// How many bytes the text has through the part's last line, its newline included.
     pub bytes: usize,
     /// How many lines these are, skipped ones included.
     pub lines: u64,
@@ -31,8 +31,8 @@ pub trait LineReader: Drop {
     ghost step: { Self → List ℕ → Next Self Self.Value Self.Rule };
 
     /// Takes the next line, without its newline, which is not skipped, not longer than
-    /// `LONGEST_LINE` and well parted: Some value exactly where the part ends with it, `Refused`
-    /// exactly where the line is refused, `NoMemory` where memory ran out.
+    /// `LONGEST_LINE` and well parted: Some value exactly if the part ends with it, `Refused`
+    /// exactly if the line is refused, `NoMemory` if memory ran out.
     fn take(&mut self, line: &[u8]) -> Result<Option<Self::Value>, TakeError<Self::Rule>>
         ensures { Takes (step self.old line.now) self.new result };
 }
@@ -85,13 +85,13 @@ pub fn take_unless_skipped<P: LineReader>(
     reader.take(line)
 }
 
-/// Reads a part from the front of a text, whose first line has the number `first`. Empty lines and
-/// those that begin with `#` are skipped.
+/// Reads a part from the beginning of a text, whose first line has the number `first`. Empty lines
+/// and those that begin with `#` are skipped.
 ///
-/// `Refused` comes exactly where a line is refused, with the number of the first such line: by the
-/// reader's rule, or by `form` where it is longer than `LONGEST_LINE`, has an empty word or holds a
+/// `Refused` comes exactly if a line is refused, with the number of the first such line: by the
+/// reader's rule, or by `form` if it is longer than `LONGEST_LINE`, has an empty word or holds a
 /// carriage return. A text that ends before the part does is refused by `form` at the line after
-/// its last. `NoMemory` comes where the reader ran out of memory.
+/// its last. `NoMemory` comes if the reader ran out of memory.
 pub fn read_part<P: LineReader>(
     mut reader: P,
     form: P::Rule,
@@ -106,7 +106,7 @@ pub fn read_part<P: LineReader>(
           taken = x.lines;
           behind = lines_of (drop x.bytes text.now);
         }))
-        (λ e. FailsAt e
+        (λ e. FailsAsDefined e
         (part_from (with_skips P.step form) form reader 0 first (lines_of text.now))) }
     ensures within { IfOk result (λ x. x.bytes ≤ length text.now) }
     ensures lines { IfOk result (λ x. x.lines ≤ x.bytes) }

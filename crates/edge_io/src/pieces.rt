@@ -21,7 +21,7 @@ fn put_piece<K: Sink>(sink: &mut K, piece: &Piece<'_>) -> Result<(), WriteFault>
 
 /// Writes the pieces, one after the other.
 ///
-/// `WriteFault` comes only where the sink counted one fault, which ended the call; a front of their
+/// `WriteFault` comes only if the sink counted one fault, which ended the call; a prefix of their
 /// text was then taken, and not all of it came through.
 pub fn put_pieces<K: Sink>(sink: &mut K, pieces: &[Piece<'_>]) -> Result<(), WriteFault>
     ensures { Puts result (pieces_text pieces.now) (K.told sink.old) (K.told sink.new) }

@@ -11,7 +11,7 @@ pub(crate) fn place(buffer: &mut [u8], at: usize, bytes: &[u8])
     buffer[at..at + bytes.len()].copy_from_slice(bytes);
 }
 
-/// Writes the digits of a number into the buffer, from that place on, and answers the place behind
+/// Writes the digits of a number into the buffer, from that place on, and answers the place after
 /// them.
 pub(crate) fn place_number(buffer: &mut [u8], at: usize, value: u64) -> usize
     requires { at + 20 ≤ length buffer.old }

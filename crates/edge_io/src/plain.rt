@@ -37,7 +37,7 @@ impl<'a> Source for PlainSource<'a> {
 
     ghost faults = { λ s. 0 };
 
-    /// No read fails, before the end or behind it, so that it counts as met from the start.
+    /// No read fails, before the end or after it, so that it counts as met from the start.
     ghost met = { λ s. true };
 
     /// Reads as many bytes as there are, and as the buffer has room for.

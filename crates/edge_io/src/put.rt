@@ -10,7 +10,7 @@ pub struct WriteFault;
 
 /// Writes all the bytes.
 ///
-/// `WriteFault` comes only where the sink counted one fault, which ended the call; a front of the
+/// `WriteFault` comes only if the sink counted one fault, which ended the call; a prefix of the
 /// bytes was then taken, and not all of them came through.
 pub fn put_all<K: Sink>(sink: &mut K, bytes: &[u8]) -> Result<(), WriteFault>
     ensures { Puts result bytes.now (K.told sink.old) (K.told sink.new) }

@@ -37,9 +37,9 @@ const PIECE: usize = 4096;
 
 /// Reads to the end of an input of at most `limit` bytes, in time linear in its length.
 ///
-/// `TooLong` comes at the first piece that goes past the limit, so at most 4096 bytes behind it.
-/// `ReadFault` comes only where the source counted one fault and its end was not met, and
-/// `NoMemory` where memory ran out; then at most `limit` bytes were read.
+/// `TooLong` comes at the first piece that goes past the limit, so at most 4096 bytes after it.
+/// `ReadFault` comes only if the source counted one fault and its end was not met, and `NoMemory`
+/// if memory ran out; then at most `limit` bytes were read.
 pub fn read_all<S: Source>(
     alloc: Global,
     source: &mut S,
@@ -55,8 +55,8 @@ pub fn read_all<S: Source>(
     ensures past { IsErrOf result InputFault.TooLong
         → LosesMore limit (S.left source.old) (S.left source.new) }
 
-    // What was read before an error is lost, and what is behind it is left. Only at `TooLong` was a
-    // byte behind the limit read.
+    // What was read before an error is lost, and what is after it is left. Only at `TooLong` was a
+    // byte after the limit read.
     ensures lost { OnErr result (LosesFront (S.left source.old) (S.left source.new)) }
     ensures within { IsErrOf result InputFault.ReadFault
         → LosesWithin limit (S.left source.old) (S.left source.new) }

@@ -7,7 +7,7 @@ use std::marker::Model;
 /// number.
 pub const MOST_RISING: usize = 32;
 
-/// A number behind a label, kept as text, that rises by one at a time.
+/// A number after a label, kept as text, that rises by one at a time.
 #[derive(Drop)]
 pub struct RisingText {
     // The text, but for its last digit.
@@ -34,7 +34,7 @@ impl RisingText {
     ghost use Rattle.std.specs.Prelude.{◌≡◌, ◌+◌, ◌-◌, ◌^◌, ◌<◌, ◌≤◌, ◌++◌, length, take};
     ghost use Rattle.edge_io.specs.Rising.{labelled_text};
 
-    /// That number behind that label, which has at most 12 bytes.
+    /// That number after that label, which has at most 12 bytes.
     pub fn new(label: &[u8], value: u64) -> RisingText
         requires { length label.now ≤ 12 }
         ensures { result ≡ record { label = label.now; value = value } }
@@ -70,7 +70,7 @@ impl RisingText {
         }
     }
 
-    /// Copies the text into the buffer, from that place on, and answers the place behind it. Up to
+    /// Copies the text into the buffer, from that place on, and answers the place after it. Up to
     /// 32 bytes from that place on are written over.
     pub(crate) fn place_in(&self, buffer: &mut [u8], at: usize) -> usize
         requires { at + 32 ≤ length buffer.old }

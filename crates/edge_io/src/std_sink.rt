@@ -1,7 +1,7 @@
 use crate::{Failed, Sink};
 use std::io::Write;
 
-/// A real writer, flushed behind each write that took bytes. It tells nothing of its bytes, and
+/// A real writer, flushed after each write that took bytes. It tells nothing of its bytes, and
 /// counts each failure: a write that fails or takes nothing, and a flush that fails.
 #[derive(Drop)]
 pub struct StdSink<W> {
@@ -50,12 +50,12 @@ impl<W: Write> Sink for StdSink<W> {
         // Each failure is counted once.
         ensures counted { OnErr result (failed_writes self.new ≡ counted (failed_writes self.old)) }
 
-        // Of a piece that failed a front may have gone to the writer, where the flush failed.
+        // Of a piece that failed a prefix may have gone to the writer, if the flush failed.
         ensures fewer { OnErr result ((n : ℕ) × (n ≤ length bytes.now)
             × Appends (W.contents (writer_of self.old)) (W.contents (writer_of self.new))
             (take n bytes.now)) }
 
-        // The bytes went to the writer, where that tells them.
+        // The bytes went to the writer, if that tells them.
         ensures writer { IfOk result (λ n. Appends (W.contents (writer_of self.old))
             (W.contents (writer_of self.new)) (take n bytes.now)) }
     {

@@ -64,7 +64,7 @@ impl<R: Read> Source for StdSource<R> {
         ensures ended { has_ended self.old ≡ true → result ≡ Ok 0 }
         ensures unasked { has_ended self.old ≡ true → self.new ≡ self.old }
 
-        // Before it the bytes are those of the reader, where that tells them.
+        // Before it the bytes are those of the reader, if that tells them.
         ensures reader { has_ended self.old ≡ false
             → OnOk result (ReadConsumes (R.remaining (reader_of self.old))
             (R.remaining (reader_of self.new)) result buf.new) }

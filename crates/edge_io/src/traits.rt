@@ -4,7 +4,7 @@ ghost use Rattle.std.specs.declared.option.Option.{Option};
 ghost use Rattle.std.specs.Io.{ReadsAtMost};
 ghost use Rattle.std.specs.Io.KnownBytes.{ReadConsumes, WriteAppends};
 ghost use Rattle.texts.specs.Causes.{HasCause};
-ghost use Rattle.texts.specs.Growth.{Told, Follows, UsesUp, Puts, IsMissed, arrived};
+ghost use Rattle.texts.specs.Growth.{SinkState, Follows, UsesUp, Puts, IsMissed, arrived};
 ghost use Rattle.edge_io.specs.Reading.{MeetsEnd};
 ghost use Rattle.edge_io.specs.Rising.{labelled_text};
 
@@ -16,9 +16,9 @@ use thiserror::Error;
 #[error("a read or a write failed")]
 pub struct Failed;
 
-/// Bytes that are read in pieces, from the front to the end.
+/// Bytes that are read in pieces, from the beginning to the end.
 pub trait Source {
-    /// The bytes that are not yet read, where the source tells them.
+    /// The bytes that are not yet read, if the source tells them.
     ghost left: { Self → Option (List ℕ) };
 
     /// How many reads have failed, up to 2 ^ 64 - 1.
@@ -27,10 +27,10 @@ pub trait Source {
     /// Whether the end was met: a read gave nothing, or no read can fail.
     ghost met: { Self → Bool };
 
-    /// Places bytes at the front of the buffer, which is not empty, and answers how many: 0 only at
-    /// the end of the input.
+    /// Places bytes at the beginning of the buffer, which is not empty, and answers how many: 0
+    /// only at the end of the input.
     ///
-    /// `Failed` comes only where one fault was counted, and then nothing was read.
+    /// `Failed` comes only if one fault was counted, and then nothing was read.
     fn read(&mut self, buf: &mut [u8]) -> Result<usize, Failed>
         requires { 0 < length buf.old }
         ensures bound { ReadsAtMost result buf.new }
@@ -41,15 +41,15 @@ pub trait Source {
 
 /// Bytes that are taken in pieces.
 pub trait Sink {
-    /// The bytes that were taken, where the sink tells them, and how many writes have failed, up to
+    /// The bytes that were taken, if the sink tells them, and how many writes have failed, up to
     /// 2 ^ 64 - 1.
-    ghost told: { Self → Told };
+    ghost told: { Self → SinkState };
 
-    /// Takes some bytes from the front of a piece that is not empty, and answers how many: at least
-    /// 1.
+    /// Takes some bytes from the beginning of a piece that is not empty, and answers how many: at
+    /// least 1.
     ///
-    /// `Failed` comes only where one fault was counted, and then nothing was taken: of the bytes
-    /// that were taken before and this piece, not all came through to the last sink.
+    /// `Failed` comes only if one fault was counted, and then nothing was taken: of the bytes that
+    /// were taken before and this piece, not all came through to the last sink.
     fn write(&mut self, bytes: &[u8]) -> Result<usize, Failed>
         requires { 0 < length bytes.now }
         ensures some { IfOk result (λ n. 0 < n) }
@@ -66,21 +66,21 @@ pub trait Sink {
 pub trait TextSink: Sink {
     /// Takes all of the bytes.
     ///
-    /// `WriteFault` comes only where one fault was counted; a front of them was then taken, and not
+    /// `WriteFault` comes only if one fault was counted; a prefix of them was then taken, and not
     /// all of them came through.
     fn text(&mut self, bytes: &[u8]) -> Result<(), WriteFault>
         ensures { Puts result bytes.now (Self.Sink.told self.old) (Self.Sink.told self.new) };
 
     /// Takes the decimal digits of a number.
     ///
-    /// `WriteFault` comes only where one fault was counted; a front of them was then taken, and not
+    /// `WriteFault` comes only if one fault was counted; a prefix of them was then taken, and not
     /// all of them came through.
     fn number(&mut self, value: u64) -> Result<(), WriteFault>
         ensures { Puts result (decimal value) (Self.Sink.told self.old) (Self.Sink.told self.new) };
 
-    /// Takes the bytes of a label, and behind them the decimal digits of a number.
+    /// Takes the bytes of a label, and after them the decimal digits of a number.
     ///
-    /// `WriteFault` comes only where one fault was counted; a front of them was then taken, and not
+    /// `WriteFault` comes only if one fault was counted; a prefix of them was then taken, and not
     /// all of them came through.
     fn labelled(&mut self, label: &[u8], value: u64) -> Result<(), WriteFault>
         ensures { Puts result (label.now ++ decimal value) (Self.Sink.told self.old)
@@ -88,13 +88,13 @@ pub trait TextSink: Sink {
 
     /// Takes one byte.
     ///
-    /// `WriteFault` comes only where one fault was counted, and then it did not come through.
+    /// `WriteFault` comes only if one fault was counted, and then it did not come through.
     fn byte(&mut self, byte: u8) -> Result<(), WriteFault>
         ensures { Puts result (byte ∷ []) (Self.Sink.told self.old) (Self.Sink.told self.new) };
 
     /// Takes a number that rises, with its label.
     ///
-    /// `WriteFault` comes only where one fault was counted; a front of the text was then taken, and
+    /// `WriteFault` comes only if one fault was counted; a prefix of the text was then taken, and
     /// not all of it came through.
     fn rising(&mut self, number: &RisingText) -> Result<(), WriteFault>
         ensures { Puts result (labelled_text number.now) (Self.Sink.told self.old)

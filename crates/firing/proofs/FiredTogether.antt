@@ -36,7 +36,7 @@ one_is : (b : Bool) → option_eq nat_eq (Some (bit b)) (Some 1) ≡ b
 one_is true = refl
 one_is false = refl
 
--- a turn that is not the last one decides nothing
+-- a round that is not the last of its slot decides nothing
 undecided : (n f i v input output x : ℕ) (heard : List State) → output % slot_length f ≡ x
     → x + 1 < slot_length f → (agree_step n f i v input output heard).decided ≡ None
 undecided n f i v input output x heard rest lt =

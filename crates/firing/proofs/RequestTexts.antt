@@ -1,42 +1,27 @@
 -- The text of requests is read as these requests.
-use Rattle.std.proofs.Common.{◌≡◌, ℕ, ◌+◌, ◌%◌, ◌^◌, ◌<◌, ◌≤◌, Bool, true, List, [], ◌∷◌, ◌++◌}
-use Rattle.std.proofs.Common.{length}
-use Rattle.std.proofs.Common.{map, get_or, All, Option, Some, Result, Ok, refl, sym, ap, subst}
-use Rattle.std.proofs.Common.{◌∙◌, append_assoc, arith}
+use Rattle.std.proofs.Common.{◌≡◌, ℕ, ◌+◌, ◌%◌, ◌<◌, ◌≤◌, Bool, true, List, [], ◌∷◌, ◌++◌, length}
+use Rattle.std.proofs.Common.{map, get_or, All, Option, Some, Result, Ok, Err, refl, ap, subst, ◌∙◌}
+use Rattle.std.proofs.Common.{arith}
 use Rattle.std.specs.Prelude.{codes, decimal, ◌==◌, if◌then◌else◌}
 use Rattle.std.proofs.lemmas.Bool.{lt-leb, le-ltb, eq-eqb}
-use Rattle.std.proofs.lemmas.List.{append-nil, length-append, get_or-append-add}
+use Rattle.std.proofs.lemmas.List.{length-append, get_or-append-add}
 use Rattle.std.proofs.lemmas.List.Elements.{All-get_or}
-use Rattle.std.proofs.lemmas.Fmt.{length-decimal-le}
-use Rattle.texts.specs.Numbers.{number_of}
 use Rattle.texts.specs.Words.{text_of}
-use Rattle.texts.specs.Lines.{lines_of, words_of}
-use Rattle.texts.specs.Shapes.{numbers_after}
-use Rattle.texts.specs.Parts.{goes, refuses, with_skips, Found, At, part_from}
-use Rattle.texts.proofs.NumberWords.{printed_is_read}
-use Rattle.texts.proofs.Printed.{IsPlain, ArePlain, spaced_length, decimal_is_plain, counts}
-use Rattle.texts.proofs.Printed.{words_joined, goes_behind, ends_there}
+use Rattle.texts.specs.Lines.{lines_of}
+use Rattle.texts.specs.Parts.{goes, goes_on, with_skips, Found, At, part_from}
+use Rattle.texts.proofs.ItemLines.{one_plain, text_more, items_read}
+use Rattle.texts.proofs.NumberLines.{AreShort, numbers_short, line_plain, numbers_back}
+use Rattle.texts.proofs.Printed.{IsPlain, spaced_length, counts, goes_behind}
 use Rattle.sync_types.specs.declared.answers.Rule.{Rule}
 use Rattle.sync_types.specs.declared.answers.Rule.TheVariants.{Form, Slot}
 use Rattle.layer_laws.specs.Numbers.{Numbers, AreNumbers, numbers_of}
 use Rattle.layer_laws.specs.Slots.{slot_length}
 use Rattle.layer_laws.proofs.PlanCounters.{plan_numbers_are}
-use Rattle.consensus_layer.proofs.AgreeTexts.{one_plain, end_plain, text_more}
 use Rattle.firing.specs.declared.requests.Request.{Request}
-use Rattle.firing.specs.FirePart.{FireSoFar, nothing_read_over, request_tested, goes_with}
+use Rattle.firing.specs.FirePart.{FireSoFar, nothing_read_over, request_tested, with_request}
 use Rattle.firing.specs.FirePart.{fire_step, AreForNumbers}
 use Rattle.firing.specs.RequestTexts.{request_text, HasRounds}
 use Rattle.firing.specs.RequestTexts.{RequestTextIsReadOver, RequestTextIsRead}
-
--- a number of a line may be printed, in 15 digits at most, and is read
-short_plain : (n : ℕ) → n < 10 ^ 15 → IsPlain (decimal n)
-short_plain n lt = decimal_is_plain n (omega arith)
-
-short_length : (n : ℕ) → n < 10 ^ 15 → length (decimal n) ≤ 15
-short_length n lt = length-decimal-le 15 n (omega arith) lt (omega arith)
-
-short_read : (n : ℕ) → n < 10 ^ 15 → number_of (decimal n) ≡ Some n
-short_read n lt = printed_is_read n (omega arith)
 
 fire_plain : IsPlain (codes "fire")
 fire_plain = record { some = omega arith; above = refl }
@@ -85,45 +70,19 @@ module _ (numbers : Numbers) (fine : AreNumbers numbers) where
     in_rounds = subst HasRounds (at_place request)
         (All-get_or HasRounds all (length done) request (omega (arith, long)) rounds)
 
-    node_short : request.node < 10 ^ 15
-    node_short = let few = fine.few in omega (arith, few, of_node)
+    -- the numbers of its line
+    abbrev said : List ℕ
+    said = request.node ∷ request.first ∷ request.last ∷ []
 
-    first_short : request.first < 10 ^ 15
-    first_short =
-        let order = in_rounds.order in let short = in_rounds.short in omega (arith, order, short)
+    said_short : AreShort said
+    said_short =
+        let few = fine.few in
+        let order = in_rounds.order in
+        let last = in_rounds.short in
+        (omega (arith, few, of_node), (omega (arith, order, last), (last, tt)))
 
-    abbrev told : List (List ℕ)
-    told = decimal request.node ∷ decimal request.first ∷ decimal request.last ∷ []
-
-    plain : ArePlain (codes "request" ∷ told)
-    plain = (
-      request_plain,
-      (
-        short_plain request.node node_short,
-        (
-          short_plain request.first first_short,
-          (short_plain request.last in_rounds.short, tt),
-        ),
-      ),
-    )
-
-    room : spaced_length (codes "request" ∷ told) ≤ 4096
-    room = omega (
-      arith,
-      short_length request.node node_short,
-      short_length request.first first_short,
-      short_length request.last in_rounds.short,
-    )
-
-    numbers_are : numbers_after (codes "request") 3 (words_of (request_text request))
-        ≡ Some (request.node ∷ request.first ∷ request.last ∷ [])
-    numbers_are =
-        ap (numbers_after (codes "request") 3) (words_joined (codes "request") told plain)
-        ∙ rw (
-          short_read request.node node_short,
-          short_read request.first first_short,
-          short_read request.last in_rounds.short,
-        ) refl
+    room : spaced_length (codes "request" ∷ map decimal said) ≤ 4096
+    room = omega (arith, numbers_short said said_short)
 
     tested : request_tested (with_requests done)
         (Some (request.node ∷ request.first ∷ request.last ∷ []))
@@ -138,66 +97,53 @@ module _ (numbers : Numbers) (fine : AreNumbers numbers) where
     steps : fire_step (with_requests done) (request_text request)
         ≡ goes (with_requests (done ++ request ∷ []))
     steps =
-        ap (λ (ns : Option (List ℕ)). goes_with (with_requests done)
-        (request_tested (with_requests done) ns)) numbers_are
-        ∙ ap (goes_with (with_requests done)) tested
+        ap (λ (ns : Option (List ℕ)). goes_on (with_request (with_requests done))
+        (request_tested (with_requests done) ns))
+        (numbers_back (codes "request") request_plain said said_short)
+        ∙ ap (goes_on (with_request (with_requests done))) tested
 
     request_read : (taken number : ℕ) (rest : List ℕ)
         → read_on (with_requests done) taken number (request_text request ++ 10 ∷ rest)
         ≡ read_on (with_requests (done ++ request ∷ [])) (taken + 1) (number + 1) rest
     request_read taken number rest =
-        goes_behind fire_step Form (codes "request") told rest plain room
+        goes_behind fire_step Form (codes "request") (map decimal said) rest
+        (line_plain (codes "request") request_plain said said_short) room
         (counts (request_text request) (omega arith) refl) (with_requests done) taken number
         (with_requests (done ++ request ∷ [])) steps
 
-  end_read : (requests : List Request) (taken number : ℕ) (rest : List ℕ)
-      → read_on (with_requests requests) taken number (text_of (codes "end" ∷ []) ++ rest)
-      ≡ Ok (record { value = requests; taken = taken + 1; behind = lines_of rest })
-  end_read requests taken number rest =
-      ap (read_on (with_requests requests) taken number) (text_more (codes "end") [] rest)
-      ∙ ends_there fire_step Form (codes "end") [] rest (end_plain, tt) (omega arith) refl
-      (with_requests requests) taken number requests refl
+  abbrev CanBeSaid : List Request → Type 0
+  CanBeSaid requests = AreForNumbers numbers requests × All HasRounds requests
 
-  requests_read : (done more : List Request) (taken number : ℕ) (rest : List ℕ)
-      → AreForNumbers numbers (done ++ more) → All HasRounds (done ++ more)
-      → read_on (with_requests done) taken number
-      (text_of (map request_text more ++ codes "end" ∷ []) ++ rest)
+  requests_read : (requests : List Request) (number : ℕ) (rest : List ℕ) → CanBeSaid requests
+      → read_on (with_requests []) 1 number
+      (text_of (map request_text requests ++ codes "end" ∷ []) ++ rest)
       ≡ Ok (record {
-        value = done ++ more;
-        taken = taken + (length more + 1);
+        value = requests;
+        taken = 1 + (length requests + 1);
         behind = lines_of rest;
       })
-  requests_read done [] taken number rest are rounds =
-      let none : done ++ [] ≡ done = append-nil done in
-      end_read done taken number rest ∙ rw none refl
-  requests_read done (request ∷ more) taken number rest are rounds =
-      let ended = map request_text more ++ codes "end" ∷ [] in
-      let same : (done ++ request ∷ []) ++ more ≡ done ++ request ∷ more =
-      append_assoc done (request ∷ []) more in
-      let count : taken + 1 + (length more + 1) ≡ taken + (length (request ∷ more) + 1) =
-      omega arith in
-      ap (read_on (with_requests done) taken number) (text_more (request_text request) ended rest)
-      ∙ request_read done more request are rounds taken number (text_of ended ++ rest)
-      ∙ requests_read (done ++ request ∷ []) more (taken + 1) (number + 1) rest
-      (subst (AreForNumbers numbers) (sym same) are) (subst (All HasRounds) (sym same) rounds)
-      ∙ rw (same, count) refl
+  requests_read requests number rest can =
+      items_read fire_step Form with_requests (λ requests. requests) (λ n. request_text)
+      (λ n requests. map request_text requests) (λ n. refl) (λ n request more. refl) CanBeSaid
+      (λ done more request can. request_read done more request can.0 can.1) (λ requests can. refl)
+      [] requests 1 number rest can
 
-  -- the first line, where the modulus is a multiple of a slot
+  -- the first line, if the modulus is a multiple of a slot
   head_is : numbers.modulus % slot_length numbers.faults ≡ 0
       → fire_step (nothing_read_over numbers) (codes "fire 1") ≡ goes (with_requests [])
   head_is multiple =
-      ap (λ (b : Bool). if b then goes (with_requests []) else refuses Slot)
+      ap (λ (b : Bool). goes_on (λ (x : Unit). with_requests []) (if b then Ok tt else Err Slot))
       (eq-eqb (numbers.modulus % slot_length numbers.faults) 0 multiple)
 
 pub request_text_is_read_over : RequestTextIsReadOver
 request_text_is_read_over numbers fine requests are rounds number rest =
     let behind = map request_text requests ++ codes "end" ∷ [] in
-    let count : 0 + 1 + (length requests + 1) ≡ length requests + 2 = omega arith in
+    let count : 1 + (length requests + 1) ≡ length requests + 2 = omega arith in
     ap (read_on (nothing_read_over numbers) 0 number) (text_more (codes "fire 1") behind rest)
     ∙ goes_behind fire_step Form (codes "fire") (codes "1" ∷ []) (text_of behind ++ rest)
     (fire_plain, (one_plain, tt)) (omega arith) refl (nothing_read_over numbers) 0 number
     (with_requests numbers fine []) (head_is numbers fine are.whole)
-    ∙ requests_read numbers fine [] requests (0 + 1) (number + 1) rest are rounds
+    ∙ requests_read numbers fine requests (number + 1) rest (are, rounds)
     ∙ rw count refl
 
 pub request_text_is_read : RequestTextIsRead

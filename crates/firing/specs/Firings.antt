@@ -32,8 +32,8 @@ bit b = if b then 1 else 0
 abbrev pub unfired : Fire
 unfired = record { round = 0; fired = false }
 
--- The layer of firing. Where a round begins, each node notes its number; in it, a node's input is
--- whether it requests there, and it fires where it decides 1.
+-- The layer of firing. When a round begins, each node notes its number; in it, a node's input is
+-- whether it requests there, and it fires if it decides 1.
 abbrev pub fire_layer_of : (nodes faults modulus depth : ℕ) → List Request → Layer Fire
 fire_layer_of nodes faults modulus depth requests = record {
   nodes = nodes;
@@ -78,7 +78,7 @@ abbrev pub fires : Scene Fire → (v : ℕ) → Bool
 fires s v = fires_of s.kept v
 
 -- The slot that begins in configuration t of a run ends with all correct nodes firing, or none: as
--- they requested in the round before it, where all or none of them did. Before, none fires.
+-- they requested in the round before it, if all or none of them did. Before, none fires.
 pub record FiresTogetherOver (counter : Meaning) (requests : List Request) (faulty : List ℕ)
     (first : ℕ) (run : List (Scene Fire)) (t : ℕ) : Type 0 where
   pub fired : Bool

@@ -1,5 +1,4 @@
 pub mod FirePart
-pub mod FireRefusals
 pub mod Firings
 pub mod FiringsSeen
 pub mod FireLaws

@@ -1,8 +1,8 @@
-ghost use Rattle.std.specs.Prelude.{◌≡◌, Ok, Err};
+ghost use Rattle.std.specs.Prelude.{◌≡◌};
 ghost use Rattle.firing.specs.FirePart.{nothing_read_over, request_in};
 
 use crate::requests::{Request, Requests};
-use consensus_layer::slot_length;
+use consensus_layer::{head_tested, slot_length};
 use edge_io::{LineReader, TakeError, numbers_after};
 use layer_laws::CounterNumbers;
 use std::alloc::Global;
@@ -85,12 +85,7 @@ impl LineReader for FireLines {
 
     fn take(&mut self, line: &[u8]) -> Result<Option<Requests>, TakeError<Rule>> {
         if !self.begun {
-            if line != b"fire 1".as_slice() {
-                return Err(TakeError::Refused(Rule::Form));
-            }
-            if !self.whole {
-                return Err(TakeError::Refused(Rule::Slot));
-            }
+            head_tested(b"fire 1", self.whole, line).map_err(TakeError::Refused)?;
             self.begun = true;
             return Ok(None);
         }

@@ -2,14 +2,14 @@ ghost use Rattle.std.specs.Prelude.{◌≡◌, ◌*◌, ◌<◌, length};
 
 use crate::fires::Fire;
 use crate::requests::Requests;
-use consensus_layer::{agree, heeded};
+use consensus_layer::{agree, relevant_liars};
 use counter_core::{Heard, HeardRegister, Overlay, Work};
 use layer_laws::CounterNumbers;
 use std::alloc::{AllocError, Global};
 use sync_types::{FaultSet, NodeState};
 
-/// Simultaneous firing over a counter: consensus on whether to fire, in slots, where a node is for
-/// it if it requests in the round before the slot.
+/// Simultaneous firing over a counter: consensus on whether to fire, in slots; a node is for it if
+/// it requests in the round before the slot.
 #[derive(Debug, Drop)]
 pub struct Firing {
     nodes: u32,
@@ -41,7 +41,7 @@ impl Firing {
         ensures kept { IfOk result
             (λ firing. fires_seen firing ≡ replicate numbers.now.nodes unfired) }
     {
-        numbers.tell();
+        numbers.facts();
         let nodes = numbers.nodes();
         Ok(Firing {
             nodes,
@@ -54,7 +54,7 @@ impl Firing {
         })
     }
 
-    /// Whether node `v`, which is below the number of nodes, fires in the configuration behind its
+    /// Whether node `v`, which is below the number of nodes, fires in the configuration after its
     /// last round. Before its first round it does not.
     pub fn fired(&self, v: u32) -> bool
         requires { v < (layer_seen self.now).nodes }
@@ -73,7 +73,7 @@ impl Firing {
             && round <= request.last)
     }
 
-    /// A node's input there: 1 where it requests, else 0.
+    /// A node's input there: 1 if it requests, else 0.
     fn input(&self, v: u32) -> u64
         ensures { result ≡ bit (requests_in self.now.requests v self.now.round) }
     {
@@ -104,7 +104,7 @@ impl Overlay for Firing {
         self.round = at;
     }
 
-    fn heeded(
+    fn relevant_liars(
         &self,
         node: u32,
         output: u64,
@@ -112,7 +112,7 @@ impl Overlay for Firing {
         faulty: &FaultSet,
     ) -> (usize, usize) {
         let values = HeardRegister::of(heard, self.depth, self.nodes, self.faults);
-        heeded(&values, node, output, faulty)
+        relevant_liars(&values, node, output, faulty)
     }
 
     fn advance(

@@ -11,8 +11,8 @@ use layer_laws::AnyCounter;
 
 /// In every run of a settling counter with firing above, whose modulus is a multiple of a slot's
 /// length, for each slot that begins after the counter's bound and ends within the run: at its end
-/// all correct nodes fire or none does. None does where none of them requests in the round before
-/// the slot, and all do where all request in it; and none fires within the slot.
+/// all correct nodes fire or none does. None does if none of them requests in the round before the
+/// slot, and all do if all request in it; and none fires within the slot.
 pub fn every_run_fires_together_over<C: AnyCounter>()
     ensures { (c : C) → EveryRunFiresTogetherOver (C.counter c) (C.is_state c) }
 {}
@@ -36,7 +36,7 @@ pub fn requests_fit()
 {}
 
 /// The text of requests for a counter, each from one round to a later one or the same, is read as
-/// these requests, at the front of any text.
+/// these requests, at the beginning of any text.
 pub fn request_texts_read_back_over()
     ensures { RequestTextIsReadOver }
 {}

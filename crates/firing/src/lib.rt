@@ -6,12 +6,10 @@ mod fires;
 mod firing;
 pub mod laws;
 mod reading;
-mod refusals;
 mod requests;
 
 pub use fire_lines::FireLines;
 pub use fires::Fire;
 pub use firing::Firing;
-pub use reading::{read_fire, read_fire_over};
-pub use refusals::{FireError, FireRefusal};
+pub use reading::{FireError, FireRefusal, read_fire, read_fire_over};
 pub use requests::{Request, Requests};

@@ -3,24 +3,30 @@ ghost use Rattle.firing.specs.FireAnswers.{IsAnswerOver, IsAnswer};
 
 use crate::fire_lines::FireLines;
 use crate::firing::Firing;
-use crate::refusals::FireError;
-use edge_io::read_part;
+use edge_io::{PartError, Refused, read_part};
 use layer_laws::CounterNumbers;
 use plan_numbers::Plan;
 use std::alloc::Global;
 use sync_types::Rule;
 
-/// Reads the fire part at the front of an input: the firing over a counter that it says, of which
-/// nothing was played, how many bytes stand through the part's `end` line, that line's newline
-/// among them, and how many lines these are, skipped ones counted. The first line of `bytes` has
-/// the number `first_line`, which is at least 1 and whose sum with the length of `bytes` is below
-/// 2^64.
+/// The line of a fire part that is refused: its number in the whole input, skipped lines counted,
+/// and the first rule that it fails. If the part lacks its end, it is the line after the last.
+pub type FireRefusal = Refused<Rule>;
+
+/// Why a fire part was not read: its first line that fails, or memory was refused.
+pub type FireError = PartError<Rule>;
+
+/// Reads the fire part at the beginning of an input: the firing over a counter that it says, of
+/// which nothing was played, how many bytes there are through the part's `end` line, that line's
+/// newline included, and how many lines these are, skipped ones counted. The first line of `bytes`
+/// has the number `first_line`, which is at least 1 and whose sum with the length of `bytes` is
+/// below 2^64.
 ///
 /// `Refused` is the first line that fails, with the first rule that it fails: `Form`, `Limit` for
 /// the 257th request, `Node` for an id that is not that of a node, `Range` for a request that ends
-/// before it begins, `Slot` on the first line where the counter's modulus is no multiple of a
-/// slot's length. A part that lacks its `end` is refused `Form` at the line after the last.
-/// `NoMemory` comes where memory was refused.
+/// before it begins, `Slot` on the first line if the counter's modulus is no multiple of a slot's
+/// length. A part that lacks its `end` is refused `Form` at the line after the last. `NoMemory`
+/// comes if memory was refused.
 pub fn read_fire_over(
     alloc: Global,
     numbers: &CounterNumbers,

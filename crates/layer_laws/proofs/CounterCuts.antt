@@ -32,7 +32,7 @@ new_front counter layer at kept v heard deep =
     ap (λ (registers : List Reg). let s : State = record { x = step.x; registers = registers } in s)
     (take_at step.registers (layer_step counter layer at kept v heard).registers counter.depth deep)
 
--- and a register behind it is one of the layer's
+-- and a register after it is one of the layer's
 pub layer_register : {Kept : Type 0} (counter : Meaning) (layer : Layer Kept) (place at : ℕ)
     (kept : Kept) (v : ℕ) (heard : List State)
     → length (counter.next v heard).registers ≡ counter.depth
@@ -129,7 +129,7 @@ module _ {Kept : Type 0} (counter : Meaning) (is_state : (v : ℕ) → State →
         get_or-map (λ (s : Scene Kept). cut_config s.states) run t
         (record { states = []; kept = [] }) [] lt
 
-    -- where further registers stand apart
+    -- if further registers stand apart
     module _ (front : HasFront counter) where
       next_is : (t : ℕ) → t + 1 < length run
           → IsNext counter is_state faulty (cut_config (scene run t).states)

@@ -11,7 +11,7 @@ use Rattle.sync_types.specs.States.{State, zero_state, zero_register, register_a
 use Rattle.construction.specs.Steps.{state_of}
 use Rattle.construction.specs.Runs.{is_in, heard_of}
 use Rattle.counter_core.specs.Meanings.{Meaning, cut}
-use Rattle.counter_core.specs.Overlays.{Layer, SameNumbers, StandsOver, HasRegisters, HasValues}
+use Rattle.counter_core.specs.Overlays.{Layer, SameNumbers, LayerFits, HasRegisters, HasValues}
 use Rattle.counter_core.specs.Overlays.{KeepsRange, MayHear, AreNew}
 use Rattle.layer_laws.specs.Counters.{IsSettling}
 use Rattle.layer_laws.specs.Scenes.{Scene, kept_of, layer_step, new_state}
@@ -39,7 +39,7 @@ all_by_place P heard n long holds =
 
 module _ {Kept : Type 0} (layer : Layer Kept) (counter : Meaning)
     (is_state : (v : ℕ) → State → Type 0) (settling : IsSettling counter is_state)
-    (over : StandsOver layer counter) (keeps : KeepsRange layer) (faulty : List ℕ)
+    (over : LayerFits layer counter) (keeps : KeepsRange layer) (faulty : List ℕ)
     (lie : Telling) (tells : TellsInRange counter is_state layer lie) where
   abbrev n : ℕ
   n = counter.nodes

@@ -155,7 +155,7 @@ module _ {Kept : Type 0} (counter : Meaning) (is_state : (v : ℕ) → State →
         ap (λ y. y % period) (shown_at (t + x) v (omega arith) lt vlt correct)
         ∙ rest_at period t whole lo begins x xlt lt
 
-    -- where the outputs of all correct nodes have a remainder, the common output has it
+    -- if the outputs of all correct nodes have a remainder, the common output has it
     pub common_rest : (period t rest : ℕ)
         → places (is_in faulty) counter.nodes < counter.nodes → counter.bound ≤ t
         → t < length run → AllAre counter faulty (scene run t).states period rest

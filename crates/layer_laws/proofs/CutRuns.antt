@@ -19,7 +19,7 @@ new_front plan layer at kept v heard =
     counters.new_front (plan_meaning plan) layer at kept v heard
     (length-step_in plan.base plan.levels v heard)
 
--- and a register behind it is one of the layer's
+-- and a register after it is one of the layer's
 pub layer_register : {Kept : Type 0} (plan : Plan) (layer : Layer Kept) (place at : ℕ) (kept : Kept)
     (v : ℕ) (heard : List State)
     → register_at (plan_depth plan + place) (new_state (plan_meaning plan) layer at kept v heard)

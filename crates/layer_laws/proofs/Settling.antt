@@ -1,4 +1,4 @@
--- The faulty nodes of a set that a counter bears are few.
+-- The faulty nodes of a set that a counter tolerates are few.
 use Rattle.std.proofs.Common.{ℕ, ◌≤◌, List, arith}
 use Rattle.counting.specs.Places.{places}
 use Rattle.sync_types.specs.States.{State}
@@ -7,7 +7,7 @@ use Rattle.counter_core.specs.Meanings.{Meaning}
 use Rattle.counter_core.proofs.ListsAndPlaces.{places_of_ids}
 use Rattle.layer_laws.specs.Counters.{Bears}
 
--- the faulty places of a borne set are as few as its ids
+-- the faulty places of a tolerated set are as few as its ids
 pub few_of : (counter : Meaning) (faulty : List ℕ) → Bears counter faulty
     → places (is_in faulty) counter.nodes ≤ counter.faults
 few_of counter faulty borne =

@@ -120,7 +120,7 @@ module _ {Kept : Type 0} (counter : Meaning) (is_state : (v : ℕ) → State →
           (ap (register_at i) (steps.honest v lt ok));
     }
 
-    -- a turn that is not the last one
+    -- a round that is not the last one
     turn : (x v : ℕ) → x + 1 < slot_length f → v < n → is_in faulty v ≡ false
         → Obeys n f (λ a. a) (is_in faulty) (register x) (x % 3) (x / 3) (register x v)
         (register (x + 1) v)
@@ -144,7 +144,7 @@ module _ {Kept : Type 0} (counter : Meaning) (is_state : (v : ℕ) → State →
         ∙ (ap (λ k. agreed_in_turn k f (layer.depth + place) v x steps.heard) same.nodes
         ∙ ap (λ d. agreed_in_turn n f (d + place) v x steps.heard) same.depth)))))
 
-    -- the last turn, and its result
+    -- the last round, and its result
     abbrev last : ℕ
     last = 3 * f + 2
 

@@ -2,7 +2,7 @@
 use Rattle.std.specs.Prelude.{◌≡◌, ℕ, ◌+◌, ◌%◌, ◌<◌, ◌≤◌, List, length}
 use Rattle.sync_types.specs.States.{State}
 use Rattle.counter_core.specs.Meanings.{Meaning}
-use Rattle.counter_core.specs.Overlays.{Layer, SameNumbers, StandsOver, KeepsRange}
+use Rattle.counter_core.specs.Overlays.{Layer, SameNumbers, LayerFits, KeepsRange}
 use Rattle.layer_laws.specs.Counters.{Bears, HasFront, IsSettling, Run}
 use Rattle.layer_laws.specs.Scenes.{Scene}
 use Rattle.layer_laws.specs.CounterLayers.{IsLayerConfiguration, LayerRun, scene, without_layer}
@@ -18,8 +18,8 @@ RunsWithoutLayerOver layer counter is_state = HasFront counter
     → LayerRun counter is_state layer faulty first run
     → Run counter is_state faulty (without_layer counter run)
 
--- Each slot of a register that has slots ends in agreement, where it begins at the counter's bound
--- or later and ends within the run.
+-- Each slot of a register that has slots ends in agreement, if it begins at the counter's bound or
+-- later and ends within the run.
 abbrev pub SlotsAgreeOver : {Kept : Type 0} → Layer Kept → (counter : Meaning)
     (is_state : (v : ℕ) → State → Type 0) → Type 0
 SlotsAgreeOver layer counter is_state = IsSettling counter is_state → SameNumbers layer counter
@@ -36,7 +36,7 @@ SlotsAgreeOver layer counter is_state = IsSettling counter is_state → SameNumb
 abbrev pub ErasAreRunsOver : {Kept : Type 0} → Layer Kept → (counter : Meaning)
     (is_state : (v : ℕ) → State → Type 0) → Type 0
 ErasAreRunsOver layer counter is_state = IsSettling counter is_state
-    → StandsOver layer counter → KeepsRange layer
+    → LayerFits layer counter → KeepsRange layer
     → (faulty : List ℕ) (lie : Telling) → TellsInRange counter is_state layer lie
     → (first : ℕ) (start : Scene _) → IsLayerConfiguration counter is_state layer start.states
     → IsKeptFor counter.nodes start.kept

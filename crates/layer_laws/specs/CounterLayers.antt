@@ -25,8 +25,8 @@ pub record StepsAs {Kept : Type 0} (counter : Meaning) (layer : Layer Kept) (at 
 -- a counter, which states its nodes have, and a layer
 module _ {Kept : Type 0} (counter : Meaning) (is_state : (v : ℕ) → State → Type 0)
     (layer : Layer Kept) where
-  -- A state of node v with the layer's registers behind, each finite value of theirs below the
-  -- layer's values. Every node has these registers, a spare too.
+  -- A state of node v with the layer's registers after its own, each finite value of theirs below
+  -- the layer's values. Every node has these registers, a spare too.
   pub record IsLayerState (v : ℕ) (state : State) : Type 0 where
     pub front : is_state v (cut counter.depth state)
     pub size : length state.registers ≡ counter.depth + layer.extra

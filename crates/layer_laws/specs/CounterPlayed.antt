@@ -18,7 +18,7 @@ Telling = (t u v : ℕ) → List State → State
 abbrev pub IsKeptFor : {Kept : Type 0} → (n : ℕ) → (kept : List Kept) → Type 0
 IsKeptFor {Kept} n kept = ((x y : Kept) → x ≡ y) ⊎ (n ≤ length kept)
 
--- what is told is in range, where the configuration is
+-- what is told is in range, if the configuration is
 abbrev pub TellsInRange : {Kept : Type 0} (counter : Meaning)
     (is_state : (v : ℕ) → State → Type 0) (layer : Layer Kept) (lie : Telling) → Type 0
 TellsInRange counter is_state layer lie = (t u v : ℕ) (config : List State)
@@ -37,19 +37,19 @@ module _ {Kept : Type 0} (counter : Meaning) (layer : Layer Kept) (faulty : List
   abbrev pub heard_in : (t : ℕ) → List State → (v : ℕ) → List State
   heard_in t config v = heard_by counter.nodes faulty config (lies_in t config) v
 
-  -- the state of node v behind round t
+  -- the state of node v after round t
   abbrev pub state_after : (t : ℕ) → Scene Kept → (v : ℕ) → State
   state_after t scene v =
       new_state counter layer t (kept_of layer scene v) v (heard_in t scene.states v)
 
-  -- what is kept at place v behind round t
+  -- what is kept at place v after round t
   abbrev pub kept_after : (t : ℕ) → Scene Kept → (v : ℕ) → Kept
   kept_after t scene v =
       if nat_lt v counter.nodes
       then (layer_step counter layer t (kept_of layer scene v) v (heard_in t scene.states v)).kept
       else kept_of layer scene v
 
-  -- the scene behind round t; as many things are kept as before
+  -- the scene after round t; as many things are kept as before
   abbrev pub next_scene : (t : ℕ) → Scene Kept → Scene Kept
   next_scene t scene = record {
     states = map (state_after t scene) (range_with_len 0 counter.nodes);

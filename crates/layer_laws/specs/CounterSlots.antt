@@ -23,12 +23,12 @@ agreed n f i v kind king heard =
     instructed n f (λ a. a) kind (register_at i (state_of heard v))
     (map (λ s. (register_at i s).a) heard) king
 
--- turn x of a slot is of kind x % 3 under king x / 3
+-- round x of a slot is of kind x % 3 under king x / 3
 abbrev pub agreed_in_turn : (n f i v x : ℕ) → (heard : List State) → Reg
 agreed_in_turn n f i v x heard = agreed n f i v (x % 3) (x / 3) heard
 
--- The layer's register at a place has slots: outputs are taken modulo the period, and turn x is
--- taken at `from + x`. After the last turn the layer does with the register what it wants.
+-- The layer's register at a place has slots: outputs are taken modulo the period, and round x of a
+-- slot is taken at `from + x`. After the last round the layer does with the register what it wants.
 pub record HasSlots {Kept : Type 0} (layer : Layer Kept) (faults period from place : ℕ)
     : Type 0 where
   pub inside : place < layer.extra
@@ -51,8 +51,8 @@ AllHold counter layer place faulty config value = (v : ℕ) → v < counter.node
     → is_in faulty v ≡ false
     → (register_at (counter.depth + place) (state_of config v)).a ≡ Some value
 
--- Node v takes the last turn of a slot in round t of a run, and its register comes out locked at
--- the value.
+-- Round t of a run is the last of a slot for node v, and its register comes out locked at the
+-- value.
 pub record TakesLast {Kept : Type 0} (counter : Meaning) (layer : Layer Kept) (place first : ℕ)
     (run : List (Scene Kept)) (t v value : ℕ) : Type 0 where
   pub heard : List State
@@ -61,8 +61,8 @@ pub record TakesLast {Kept : Type 0} (counter : Meaning) (layer : Layer Kept) (p
   pub locked : agreed_in_turn counter.nodes counter.faults (counter.depth + place) v
       (3 * counter.faults + 2) heard ≡ locked_at value
 
--- Turns 0 to the last are taken from configuration t on. All correct nodes come out with one value,
--- which is the common one where their registers had one in configuration t.
+-- Rounds 0 to the last of a slot are taken from configuration t on. All correct nodes come out with
+-- one value, which is the common one if their registers had one in configuration t.
 pub record SlotAgrees {Kept : Type 0} (counter : Meaning) (layer : Layer Kept) (place : ℕ)
     (faulty : List ℕ) (first : ℕ) (run : List (Scene Kept)) (t : ℕ) : Type 0 where
   pub value : ℕ

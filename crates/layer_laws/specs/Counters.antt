@@ -1,4 +1,4 @@
--- Rounds and runs of any counter, by what its states are, and that its outputs come to count.
+-- Rounds and runs of any counter, by what its states are, and how its outputs come to count.
 use Rattle.std.specs.Prelude.{◌≡◌, ℕ, ◌+◌, ◌*◌, ◌%◌, ◌<◌, ◌≤◌, List, [], length, map, false, All}
 use Rattle.std.specs.Prelude.{slice_index_or}
 use Rattle.std.specs.List.Sorted.{IsStrictlyIncreasing}
@@ -8,7 +8,7 @@ use Rattle.construction.specs.Runs.{is_in, configuration, heard_by}
 use Rattle.counter_core.specs.Meanings.{Meaning, cut}
 pub use Rattle.counter_core.specs.Runs.{Bears}
 
--- Registers behind the counter's own stand apart: a step gives as many as the counter has, and
+-- Registers after the counter's own stand apart: a step gives as many as the counter has, and
 -- further ones change neither the step nor what a state shows.
 pub record HasFront (counter : Meaning) : Type 0 where
   pub deep : (v : ℕ) (heard : List State) → v < counter.nodes
@@ -63,10 +63,10 @@ module _ (counter : Meaning) (is_state : (v : ℕ) → State → Type 0) where
     pub grows : (t : ℕ) → from ≤ t → t + 1 < length run
         → output (t + 1) ≡ (output t + 1) % counter.modulus
 
-  -- What a layer asks of a counter: more than three times as many nodes as may be faulty, states
-  -- of the counter's depth, outputs below the modulus, a step that gives a state of its node and
-  -- does not hang on further registers; and it counts from the bound on, whatever the start and the
-  -- lies, with each faulty set that it bears.
+  -- What a layer asks of a counter: more than three times as many nodes as may be faulty, states of
+  -- the counter's depth, outputs below the modulus, a step that gives a state of its node and does
+  -- not depend on further registers; and it counts from the bound on, whatever the start and the
+  -- lies, with each faulty set that it tolerates.
   pub record IsSettling : Type 0 where
     pub quorum : 3 * counter.faults < counter.nodes
     pub least : 2 ≤ counter.modulus

@@ -4,7 +4,7 @@ use Rattle.construction.specs.Plans.{Plan, plan_nodes, plan_faults, plan_modulus
 use Rattle.construction.specs.Runs.{IsState, Run, IsBorne}
 use Rattle.plan_numbers.specs.Premises.{IsAccepted}
 use Rattle.plan_laws.specs.PlanMeaning.{plan_meaning}
-use Rattle.counter_core.specs.Overlays.{Layer, SameNumbers, StandsOver, KeepsRange}
+use Rattle.counter_core.specs.Overlays.{Layer, SameNumbers, LayerFits, KeepsRange}
 use Rattle.layer_laws.specs.Counters.{IsSettling}
 use Rattle.layer_laws.specs.Scenes.{Scene}
 use Rattle.layer_laws.specs.LayerRuns.{IsLayerConfiguration, LayerRun, scene, without_layer}
@@ -21,7 +21,7 @@ abbrev pub RunsWithoutLayer : {Kept : Type 0} → Layer Kept → Type 0
 RunsWithoutLayer layer = (plan : Plan) (faulty : List ℕ) (first : ℕ) (run : List (Scene _))
     → LayerRun plan layer faulty first run → Run plan faulty (without_layer plan run)
 
--- Each slot of a register that has slots ends in agreement, where it begins at the plan's bound or
+-- Each slot of a register that has slots ends in agreement, if it begins at the plan's bound or
 -- later and ends within the run.
 abbrev pub SlotsAgree : {Kept : Type 0} → Layer Kept → Type 0
 SlotsAgree layer = (plan : Plan) → IsAccepted plan → SameNumbers layer (plan_meaning plan)
@@ -36,7 +36,7 @@ SlotsAgree layer = (plan : Plan) → IsAccepted plan → SameNumbers layer (plan
 -- An era that begins with states in range is a run with the layer, whose first round is that of
 -- the era.
 abbrev pub ErasAreRuns : {Kept : Type 0} → Layer Kept → Type 0
-ErasAreRuns layer = (plan : Plan) → IsAccepted plan → StandsOver layer (plan_meaning plan)
+ErasAreRuns layer = (plan : Plan) → IsAccepted plan → LayerFits layer (plan_meaning plan)
     → KeepsRange layer
     → (faulty : List ℕ) (lie : Telling) → TellsInRange plan layer faulty lie
     → (first : ℕ) (start : Scene _) → IsLayerConfiguration plan layer start.states

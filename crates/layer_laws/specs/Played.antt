@@ -31,6 +31,6 @@ module _ {Kept : Type 0} (plan : Plan) (layer : Layer Kept) (faulty : List ℕ) 
   abbrev pub era_from : (first : ℕ) → Scene Kept → (rounds : ℕ) → List (Scene Kept)
   era_from = counters.era_from (plan_meaning plan) layer faulty lie
 
-  -- what is told is in range, where the configuration is
+  -- what is told is in range, if the configuration is
   abbrev pub TellsInRange : Type 0
   TellsInRange = counters.TellsInRange (plan_meaning plan) (IsState plan) layer lie

@@ -21,7 +21,7 @@ abbrev pub layer_step : {Kept : Type 0} → Meaning → Layer Kept → (at : ℕ
 layer_step counter layer at kept v heard =
     layer.next v (layer.begun at kept) (counter.shows v (state_of heard v)) heard
 
--- the new state of node v: the counter's registers, and behind them the layer's
+-- the new state of node v: the counter's registers, and after them the layer's
 abbrev pub new_state : {Kept : Type 0} → Meaning → Layer Kept → (at : ℕ) → Kept → (v : ℕ)
     → (heard : List State) → State
 new_state counter layer at kept v heard = record {

@@ -18,7 +18,7 @@ module _ {Kept : Type 0} (plan : Plan) (layer : Layer Kept) (place : ℕ) where
   abbrev pub AllHold : (faulty : List ℕ) (config : List State) (value : ℕ) → Type 0
   AllHold = counters.AllHold (plan_meaning plan) layer place
 
-  -- node v takes the last turn of a slot in round t of a run
+  -- round t of a run is the last of a slot for node v
   abbrev pub TakesLast : (first : ℕ) (run : List (Scene Kept)) (t v value : ℕ) → Type 0
   TakesLast = counters.TakesLast (plan_meaning plan) layer place
 

@@ -10,16 +10,16 @@ use crate::counters::AnyCounter;
 use counter_core::Overlay;
 
 /// A run with a layer is a run of the counter, once the layer's registers are cut off and what
-/// nodes keep is forgotten, where registers behind the counter's own change neither its steps nor
-/// what it shows, as of a settling one. So what holds of the counter's runs holds of it.
+/// nodes keep is forgotten, if registers after the counter's own change neither its steps nor what
+/// it shows, as of a settling one. So what holds of the counter's runs holds of it.
 pub fn runs_without_layer_over<C: AnyCounter, O: Overlay>()
     ensures { (c : C) (layer : Layer O.Kept)
         → RunsWithoutLayerOver layer (C.counter c) (C.is_state c) }
 {}
 
 /// Each slot that begins at a settling counter's bound or later, and ends within the run, ends in
-/// agreement: all correct nodes come out of the last turn with one value, the common one where
-/// their registers had one before the first.
+/// agreement: all correct nodes come out of the last round with one value, the common one if their
+/// registers had one before the first.
 pub fn slots_agree_over<C: AnyCounter, O: Overlay>()
     ensures { (c : C) (layer : Layer O.Kept)
         → SlotsAgreeOver layer (C.counter c) (C.is_state c) }
@@ -44,7 +44,7 @@ pub fn runs_without_layer<O: Overlay>()
 {}
 
 /// Each slot that begins at the plan's bound or later, and ends within the run, ends in agreement:
-/// all correct nodes come out of the last turn with one value, the common one where their registers
+/// all correct nodes come out of the last round with one value, the common one if their registers
 /// had one before the first.
 pub fn slots_agree<O: Overlay>()
     ensures { (layer : Layer O.Kept) → SlotsAgree layer }

@@ -62,7 +62,7 @@ impl CounterNumbers {
     pub fn of(plan: &Plan) -> CounterNumbers
         ensures { result ≡ numbers_of plan.now }
     {
-        plan.tell();
+        plan.facts();
         CounterNumbers {
             nodes: plan.nodes(),
             faults: plan.faults(),
@@ -72,7 +72,7 @@ impl CounterNumbers {
     }
 
     /// Tells a caller's proof within which limits they are. It does nothing when it runs.
-    pub fn tell(&self)
+    pub fn facts(&self)
         ensures { AreNumbers self.now }
     {
         let _nodes = self.nodes;
@@ -92,7 +92,7 @@ impl CounterNumbers {
         self.faults
     }
 
-    /// By what the counter counts, 2 to 2^40.
+    /// The modulus that the counter counts by, 2 to 2^40.
     pub fn modulus(&self) -> u64
         ensures { result ≡ self.now.modulus }
     {

@@ -10,7 +10,7 @@ use Rattle.counter_core.specs.Overlays.{Layer}
 use Rattle.adversary_script.specs.Scripts.{Script}
 use Rattle.adversary_script.specs.Eras.{era_of, first_of_era, end_of_era, faulty_at}
 use Rattle.machine_runner.proofs.Firsts.{era_within}
-use Rattle.layer_runs.specs.Lowest.{lowest_correct}
+use Rattle.layer_laws.specs.Lowest.{lowest_correct}
 use Rattle.layer_lines.specs.CountedSlots.{SlotCounts, SlotsCountOver}
 use Rattle.layer_lines.specs.Counting.{ErasCount}
 use Rattle.layer_lines.specs.PlayedTexts.{configuration_in}

@@ -1,17 +1,16 @@
 -- The lines of a log are those that are defined.
-use Rattle.std.proofs.Common.{◌≡◌, ℕ, suc, ◌+◌, ◌-◌, ◌*◌, ◌%◌, ◌<◌, ◌≤◌, Bool, true, false, cond}
-use Rattle.std.proofs.Common.{List, [], ◌∷◌, refl, sym, ap, ap₂, ◌∙◌, subst, arith}
-use Rattle.std.specs.Prelude.{◌==◌, codes, replicate}
-use Rattle.std.specs.List.{concat, flat_map, range_with_len}
+use Rattle.std.proofs.Common.{◌≡◌, ℕ, suc, ◌+◌, ◌-◌, ◌*◌, ◌%◌, ◌<◌, ◌≤◌, true, List, [], ◌∷◌, refl}
+use Rattle.std.proofs.Common.{ap, ap₂, ◌∙◌, subst, arith}
+use Rattle.std.specs.Prelude.{codes, replicate}
+use Rattle.std.specs.List.{concat}
 use Rattle.std.proofs.Math.Nat.{mul-mod_left}
-use Rattle.std.proofs.Math.Path.{fun_ext}
 use Rattle.std.proofs.lemmas.Nat.Gcd.{dvd_of_mod-eq-zero, mod-eq-zero_of_dvd, dvd_trans}
 use Rattle.sync_types.specs.States.{State}
 use Rattle.counter_core.specs.Meanings.{Meaning}
 use Rattle.counter_core.specs.Overlays.{Layer}
 use Rattle.adversary_script.specs.Scripts.{Script}
 use Rattle.adversary_script.specs.Eras.{faulty_at}
-use Rattle.run_texts.specs.RunTexts.{bound_line, words_of}
+use Rattle.machine_runner.specs.RunTexts.{bound_line, words_of}
 use Rattle.layer_laws.specs.Numbers.{numbers_in}
 use Rattle.layer_laws.specs.Scenes.{Scene}
 use Rattle.layer_laws.specs.Slots.{slot_length}
@@ -27,10 +26,10 @@ use Rattle.layer_lines.specs.EntryTexts.{entry_word, entry_front, output_before}
 use Rattle.layer_lines.specs.EntryTexts.{log_scene, slot_owner, entry_line, entry_wording}
 use Rattle.layer_lines.specs.Laws.{EntriesAsDefined}
 use Rattle.layer_lines.proofs.Rooms.{room_for_one}
-use Rattle.layer_lines.proofs.Ending.{counting, long_before}
+use Rattle.layer_lines.proofs.Ending.{counting}
+use Rattle.layer_lines.proofs.LaterOutputs.{later_output}
 use Rattle.layer_lines.proofs.Owners.{owner_before}
-use Rattle.layer_lines.proofs.SlotShift.{lines_of_slots}
-use Rattle.layer_lines.proofs.LaterOutputs.{later_output, same_rest}
+use Rattle.layer_lines.proofs.SlotLaws.{ends_behind, as_defined}
 
 -- a multiple of the entries of all nodes is one of an entry
 each_divides : (m n e : ℕ) → m % (n * e) ≡ 0 → m % e ≡ 0
@@ -92,15 +91,14 @@ module _ (counter : Meaning) (script : Script) (said : LogSaid)
     goes_on t = subst (λ q. GoesOn q t) length_is
         (later_output counter script layer began counts (slot_length f) t)
 
-    -- the owner as it is told at the slot's end
+    -- the owner as it is found at the slot's end
     abbrev told_owner : ℕ → ℕ
     told_owner c = owner_at n f (output_before m q (lead_at c))
 
     owner_is : (c : ℕ) → ends_at counter script q c (config_at c) ≡ true
         → told_owner c ≡ slot_owner counter script said (c - q)
     owner_is c is =
-        let long = long_before counter script q c (config_at c) is in
-        let here : c ≡ c - q + q = omega (arith, long) in
+        let here = ends_behind counter script q c (config_at c) is in
         let later = goes_on (c - q) (counting counter script q c (config_at c) is) in
         ap told_owner here
         ∙ (ap (λ o. owner_at n f (output_before m q o)) later
@@ -115,32 +113,13 @@ module _ (counter : Meaning) (script : Script) (said : LogSaid)
         concat (entry_front t owner
         ∷ words_of counter.nodes (entry_word (scene d)) (faulty_at script d) ∷ codes "\n" ∷ [])
 
-    line_at_end : (c : ℕ) (b : Bool) → ends_at counter script q c (config_at c) ≡ b
-        → cond b (line_to (c - q) (told_owner c) c) []
-        ≡ cond b (entry_line counter script said (c - q)) []
-    line_at_end c true is =
-        let long = long_before counter script q c (config_at c) is in
-        let here : c ≡ c - q + q = omega (arith, long) in
-        ap₂ (line_to (c - q)) (owner_is c is) here
-    line_at_end c false is = refl
-
-    abbrev SameRest : ℕ → ℕ → Type 0
-    SameRest q t = counts_at counter.bound script q t ≡ true
-        → (lead_at (t + q) % q == 0) ≡ (lead_at t % q == 0)
-
-    same : (t : ℕ) → SameRest q t
-    same t =
-        let divides : m % suc (slot_length f) ≡ 0 =
-        subst (λ q. m % q ≡ 0) (sym length_is) (each_divides m n q whole) in
-        subst (λ q. SameRest q t) length_is (λ counting. same_rest counter script layer began counts
-        (slot_length f) t counting divides)
-
     lines : lines_text counter script layer began (entry_wording n f m)
         ≡ slot_lines counter script q config_at (entry_line counter script said)
-    lines =
-        ap (λ (g : ℕ → List ℕ). flat_map g (range_with_len 0 (script.rounds + 1)))
-        (fun_ext (λ c. line_at_end c _ refl))
-        ∙ lines_of_slots counter script q config_at (entry_line counter script said) same
+    lines = as_defined counter script layer began q (entry_wording n f m)
+        (entry_line counter script said) (slot_length f) length_is (each_divides m n q whole) counts
+        (λ c. refl)
+        (λ c is. ap₂ (line_to (c - q)) (owner_is c is)
+        (ends_behind counter script q c (config_at c) is))
 
 pub entries_as_defined : EntriesAsDefined
 entries_as_defined counter locked script said whole counts =

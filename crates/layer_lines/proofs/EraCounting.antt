@@ -1,14 +1,14 @@
--- What is played of each era counts, where it is a run with the layer.
+-- What is played of each era counts, if it is a run with the layer.
 use Rattle.std.proofs.Common.{◌≡◌, ℕ, ◌+◌, ◌-◌, ◌<◌, ◌≤◌, List, [], length, map, sym, ap, ◌∙◌}
 use Rattle.std.proofs.Common.{arith}
 use Rattle.std.proofs.lemmas.List.{length-map}
-use Rattle.std.proofs.lemmas.List.FromFn.{length-map-range_with_len, get_or-map-range_with_len}
 use Rattle.sync_types.specs.States.{State}
 use Rattle.counter_core.specs.Meanings.{Meaning, cut}
 use Rattle.counter_core.specs.Overlays.{Layer}
 use Rattle.adversary_script.specs.Scripts.{Script}
 use Rattle.adversary_script.specs.Eras.{first_of_era, end_of_era, faulty_of_era}
-use Rattle.layer_laws.specs.Counters.{CountsFrom}
+use Rattle.machine_runner.proofs.Eras.{era_long, place_is, of_each_era}
+use Rattle.layer_laws.specs.Counters.{Bears, CountsFrom}
 use Rattle.layer_laws.specs.CounterLayers.{scene, without_layer}
 use Rattle.layer_laws.specs.Scenes.{Scene}
 use Rattle.layer_laws.proofs.CounterSteps.{shown_at}
@@ -18,7 +18,6 @@ use Rattle.layer_lines.specs.CountedSlots.{PlayedErasCount}
 use Rattle.layer_lines.specs.Counting.{EraCounts}
 use Rattle.layer_lines.specs.PlayedTexts.{scene_in}
 use Rattle.layer_lines.specs.SlotTexts.{output_of}
-use Rattle.layer_lines.proofs.Leads.{borne_in}
 
 -- the places of a run are the configurations of its era
 module _ {Kept : Type 0} (counter : Meaning) (script : Script) (layer : Layer Kept)
@@ -26,24 +25,17 @@ module _ {Kept : Type 0} (counter : Meaning) (script : Script) (layer : Layer Ke
   abbrev at : ℕ → Scene Kept
   at t = scene_in counter script layer began t
 
-  abbrev first : ℕ
-  first = first_of_era script j
-
-  abbrev count : ℕ
-  count = end_of_era script j - first_of_era script j
-
   pub run_long : length (era_scenes counter script layer began j)
       ≡ end_of_era script j - first_of_era script j
-  run_long = length-map-range_with_len (λ i. at (first + i)) 0 count
+  run_long = era_long script at j
 
   pub scene_is : (t : ℕ) → first_of_era script j ≤ t → t < end_of_era script j
       → scene (era_scenes counter script layer began j) (t - first_of_era script j)
       ≡ scene_in counter script layer began t
   scene_is t lo hi =
-      let here : first + (t - first) ≡ t = omega (arith, lo) in
-      get_or-map-range_with_len (λ i. at (first + i)) 0 count (t - first) (t - first)
-      (record { states = []; kept = [] }) (omega (arith, lo, hi)) (omega arith)
-      ∙ ap at here
+      let here : first_of_era script j + (t - first_of_era script j) ≡ t = omega (arith, lo) in
+      place_is script at j (t - first_of_era script j) (record { states = []; kept = [] })
+      (omega (arith, lo, hi)) ∙ ap at here
 
 module _ {Kept : Type 0} (counter : Meaning) (is_state : (v : ℕ) → State → Type 0)
     (script : Script) (layer : Layer Kept) (began : List Kept)
@@ -58,7 +50,7 @@ module _ {Kept : Type 0} (counter : Meaning) (is_state : (v : ℕ) → State →
   counts : CountsFrom counter is_state faulty (without_layer counter run) counter.bound
   counts =
       counts_of counter is_state layer plays.settling faulty
-      (borne_in counter script plays.borne j among) (first_of_era script j) run
+      (of_each_era (Bears counter) script j among plays.borne) (first_of_era script j) run
       (plays.eras j among)
 
   cut_long : length (without_layer counter run) ≡ end_of_era script j - first_of_era script j

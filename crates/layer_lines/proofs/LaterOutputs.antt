@@ -1,4 +1,4 @@
--- What the lowest correct node shows a slot later, where the slot counts.
+-- What the lowest correct node shows a slot later, if the slot counts.
 use Rattle.std.proofs.Common.{◌≡◌, ℕ, zero, suc, ◌+◌, ◌%◌, ◌<◌, ◌≤◌, true, false}
 use Rattle.std.proofs.Common.{List, length, sym, ap, ◌∙◌, arith}
 use Rattle.std.specs.Prelude.{◌==◌}
@@ -10,29 +10,14 @@ use Rattle.counter_core.specs.Meanings.{Meaning}
 use Rattle.counter_core.specs.Overlays.{Layer}
 use Rattle.adversary_script.specs.Scripts.{Script}
 use Rattle.adversary_script.specs.Eras.{era_of, first_of_era, end_of_era, faulty_of_era}
+use Rattle.machine_runner.proofs.Eras.{counts_on}
 use Rattle.machine_runner.proofs.Firsts.{era_within}
-use Rattle.layer_runs.specs.Lowest.{lowest_correct}
+use Rattle.layer_laws.specs.Lowest.{lowest_correct}
 use Rattle.layer_lines.specs.PlayedTexts.{configuration_in}
 use Rattle.layer_lines.specs.SlotTexts.{output_of, lead_output, counts_at}
 use Rattle.layer_lines.specs.Counting.{EraCounts, ErasCount}
 use Rattle.layer_lines.proofs.SlotParts.{past_bound, same_era, before_end}
 use Rattle.layer_lines.proofs.Leads as leading
-
--- outputs that count do so for any number of rounds
-counted : (c : ℕ) (output : ℕ → ℕ) (from end : ℕ)
-    → ((t : ℕ) → from ≤ t → t + 1 < end → output (t + 1) ≡ (output t + 1) % c)
-    → (i x : ℕ) → from ≤ i → i + suc x < end → output (i + suc x) ≡ (output i + suc x) % c
-counted c output from end grows i zero lo hi =
-    let one : i + 1 ≡ i + suc zero = omega arith in
-    let same : output i + 1 ≡ output i + suc zero = omega arith in
-    ap output (sym one) ∙ (grows i lo (omega (arith, hi)) ∙ ap (λ y. y % c) same)
-counted c output from end grows i (suc x) lo hi =
-    let step : i + suc (suc x) ≡ i + suc x + 1 = omega arith in
-    let same : output i + suc x + 1 ≡ output i + suc (suc x) = omega arith in
-    ap output step
-    ∙ (grows (i + suc x) (omega (arith, lo)) (omega (arith, hi))
-    ∙ (ap (λ y. (y + 1) % c) (counted c output from end grows i x lo (omega (arith, hi)))
-    ∙ (mod-add-mod (output i + suc x) c 1 ∙ ap (λ y. y % c) same)))
 
 module _ {Kept : Type 0} (counter : Meaning) (script : Script) (layer : Layer Kept)
     (began : List Kept) (is : ErasCount counter script layer began) where
@@ -55,7 +40,7 @@ module _ {Kept : Type 0} (counter : Meaning) (script : Script) (layer : Layer Ke
     later i x lo hi =
         let counts : EraCounts counter script layer began j = is.eras j among in
         counts.shows (i + suc x) (omega (arith, lo)) hi lead leads.0 leads.1
-        ∙ (counted counter.modulus counts.output (first_of_era script j + counter.bound)
+        ∙ (counts_on counter.modulus counts.output (first_of_era script j + counter.bound)
         (end_of_era script j) counts.grows i x lo hi
         ∙ ap (λ o. (o + suc x) % counter.modulus)
         (sym (counts.shows i lo (omega (arith, hi)) lead leads.0 leads.1)))
@@ -80,7 +65,7 @@ module _ {Kept : Type 0} (counter : Meaning) (script : Script) (layer : Layer Ke
         (let past = past_bound counter.bound script q t counting in omega (arith, past))
         (before_end counter.bound script q t counting is.whole)
 
-    -- so it is a multiple of the slot's length where it was one
+    -- so it is a multiple of the slot's length if it was one
     pub same_rest : counter.modulus % suc x ≡ 0
         → (lead_output counter script (t + suc x) (config_at (t + suc x)) % suc x == 0)
         ≡ (lead_output counter script t (config_at t) % suc x == 0)

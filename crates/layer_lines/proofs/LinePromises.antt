@@ -6,11 +6,11 @@ use Rattle.sync_types.specs.States.{State}
 use Rattle.construction.specs.Steps.{state_of}
 use Rattle.counter_core.specs.Meanings.{Meaning}
 use Rattle.adversary_script.specs.Eras.{first_of_era, era_of, faulty_of_era, faulty_at}
-use Rattle.run_texts.specs.RunTexts.{number_word}
+use Rattle.machine_runner.specs.RunTexts.{number_word}
 use Rattle.layer_laws.specs.CounterSlots.{slot_length}
 use Rattle.layer_laws.specs.Numbers.{numbers_in}
 use Rattle.layer_laws.specs.Scenes.{Scene}
-use Rattle.layer_runs.specs.Lowest.{lowest_correct}
+use Rattle.layer_laws.specs.Lowest.{lowest_correct}
 use Rattle.consensus_layer.specs.Agreements.{agree_layer_over, decision}
 use Rattle.consensus_layer.proofs.Decisions.{every_run_decides_over}
 use Rattle.firing.specs.Firings.{fire_layer_over, fires, unfired, requests_in}

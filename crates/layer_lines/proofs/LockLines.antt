@@ -4,15 +4,13 @@ use Rattle.std.proofs.Common.{ap₂, ◌∙◌, arith}
 use Rattle.std.specs.Prelude.{◌==◌, slice_index_or}
 use Rattle.std.specs.List.{concat}
 use Rattle.sync_types.specs.States.{State}
-use Rattle.texts.specs.Growth.{Told, Wrote}
 use Rattle.adversary_script.specs.Scripts.{Script}
 use Rattle.adversary_script.specs.Eras.{first_of_era}
-use Rattle.run_texts.specs.FirstLocked.{LockTest, era_locked}
-use Rattle.run_texts.specs.RunTexts as texts
-use Rattle.run_texts.specs.RunTexts.{locked_line, era_front}
-use Rattle.run_texts.proofs.WordsSoFar.{words_before}
-use Rattle.layer_runs.specs.Positions.{Position, known_locks}
-use Rattle.layer_runs.proofs.Playing.{known_at}
+use Rattle.machine_runner.specs.FirstLocked.{LockTest, era_locked}
+use Rattle.machine_runner.specs.RunTexts as texts
+use Rattle.machine_runner.specs.RunTexts.{locked_line, era_front}
+use Rattle.machine_runner.specs.FirstLocked.{known_locks}
+use Rattle.machine_runner.proofs.KnownLocks.{known_at}
 use Rattle.layer_lines.specs.LockTexts.{lock_of_era, lock_lines}
 use Rattle.layer_lines.proofs.FirstListed.{first_listed}
 use Rattle.layer_lines.proofs.SameTexts.{same_texts}
@@ -37,11 +35,5 @@ locks_listed locked script config_at =
     same_locks script
     (λ j. slice_index_or (known_locks locked script config_at script.rounds) j None)
     (lock_of_era locked script config_at)
-    (λ j le. known_at locked script config_at script.rounds j (omega (arith, le))
+    (λ j le. known_at locked script config_at script.rounds j None (omega (arith, le))
     ∙ first_listed (era_locked locked script config_at j) script.rounds)
-
--- the lines of the eras before era j are written, of what a play knows
-abbrev pub ErasSoFar : {Kept : Type 0} → Position Kept → (j : ℕ) → (s t : Told) → Type 0
-ErasSoFar p j s t =
-    Wrote (words_before (texts.era_line p.script (λ i. slice_index_or p.locks i None))
-    (length p.script.eras + 1) j) s t

@@ -1,4 +1,4 @@
--- The owner of a slot, told by the output at its end.
+-- The owner of a slot, found from the output at its end.
 use Rattle.std.proofs.Common.{◌≡◌, ℕ, ◌+◌, ◌-◌, ◌*◌, ◌/◌, ◌%◌, ◌<◌, ◌≤◌, inl, inr, cond, sym, ap}
 use Rattle.std.proofs.Common.{◌∙◌, arith}
 use Rattle.std.proofs.Math.Nat.{mod-eq_of_lt, mod-lt, add-mod_right, mod-add-mod, mod-mod_of_dvd}
@@ -9,7 +9,7 @@ use Rattle.std.proofs.lemmas.Bool.{cases_lt, lt-ltb, le-ltb}
 use Rattle.replicated_log.specs.EntryLength.{entry_length, owner_at}
 use Rattle.layer_lines.specs.EntryTexts.{output_before}
 
--- q rounds behind an output, the output is the one q rounds before
+-- q rounds after an output, the one q rounds before is that output
 back_again : (m q o : ℕ) → o < m → q ≤ m → output_before m q ((o + q) % m) ≡ o
 back_again m q o lt le = elim (cases_lt (o + q) m) [
   | inl below ↦
@@ -27,12 +27,12 @@ back_again m q o lt le = elim (cases_lt (o + q) m) [
       ∙ omega (arith, above)
 ]
 
--- that of any output is its rest by the modulus
+-- that of any output is its remainder by the modulus
 back_by : (m q o : ℕ) → 0 < m → q ≤ m → output_before m q ((o + q) % m) ≡ o % m
 back_by m q o some le =
     ap (output_before m q) (sym (mod-add-mod o m q)) ∙ back_again m q (o % m) (mod-lt o some) le
 
--- the owner is told by an output's rest by the entries of all nodes
+-- the owner follows from an output's remainder by the entries of all nodes
 by_rest : (n f o : ℕ) → 0 < n → o % (n * entry_length f) / entry_length f ≡ owner_at n f o
 by_rest n f o some =
     let e : ℕ = entry_length f in
@@ -40,7 +40,7 @@ by_rest n f o some =
     ap (λ r. r / entry_length f) (mod-mul o some one)
     ∙ div-mul-add (o / e % n) e (o % e) (mod-lt o one)
 
--- so it is that of the output's rest by a modulus that is a multiple of them
+-- so it is that of the output's remainder by a modulus that is a multiple of them
 owner_by : (m n f o : ℕ) → 0 < n → m % (n * entry_length f) ≡ 0
     → owner_at n f (o % m) ≡ owner_at n f o
 owner_by m n f o some whole =

@@ -10,7 +10,7 @@ use Rattle.adversary_script.specs.Eras.{faulty_at}
 use Rattle.adversary_script.specs.Lies.{lie_of}
 use Rattle.adversary_script.specs.Rounds.{lies_at}
 use Rattle.layer_lines.specs.PlayedScripts.{played_scene, ScriptsArePlayedOver}
-use Rattle.layer_lines.proofs.SceneSteps.{put_is, steps_as, keeps_as}
+use Rattle.layer_laws.proofs.SceneSteps.{put_is, steps_as, keeps_as}
 
 -- what the table of lies of a round has for two nodes is what the script says of these
 pub told_is : (script : Script) (t : ℕ) (config : List State) (u v : ℕ) → u < script.nodes

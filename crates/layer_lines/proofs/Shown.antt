@@ -18,7 +18,7 @@ module _ (row : ℕ → List ℕ) (first last : ℕ) where
   abbrev pub rows_before : ℕ → List ℕ
   rows_before t = flat_map row (take (t - first) (range_with_len first (last + 1 - first)))
 
-  -- row t, where it is one of them
+  -- row t, if it is one of them
   abbrev pub row_if_shown : ℕ → List ℕ
   row_if_shown t = cond (nat_le first t && nat_le t last) (row t) []
 
@@ -67,14 +67,14 @@ module _ (row : ℕ → List ℕ) (first last : ℕ) where
     both : (t : ℕ) → first ≤ t → t ≤ last → nat_le first t && nat_le t last ≡ true
     both t le ge = ap (λ (b : Bool). b && nat_le t last) (le-leb first t le) ∙ le-leb t last ge
 
-  -- what stands behind them
+  -- what stands after them
   pub rows_rest : (t : ℕ)
       → flat_map row rows ≡ rows_before t ++ flat_map row (drop (t - first) rows)
   rows_rest t =
       ap (flat_map row) (sym (take-append-drop (t - first) rows))
       ∙ flat_map-append row (take (t - first) rows) (drop (t - first) rows)
 
-  -- before the first row there is none, and behind the last there are all
+  -- before the first row there is none, and after the last there are all
   pub none_before : rows_before 0 ≡ []
   none_before =
       let none : 0 - first ≡ 0 = omega arith in ap (λ (n : ℕ). flat_map row (take n rows)) none

@@ -7,6 +7,7 @@ use Rattle.counter_core.specs.Meanings.{Meaning}
 use Rattle.counter_core.specs.Overlays.{Layer}
 use Rattle.adversary_script.specs.Scripts.{Script}
 use Rattle.adversary_script.specs.Eras.{era_of, first_of_era, faulty_of_era, faulty_at}
+use Rattle.machine_runner.proofs.Eras.{of_each_era}
 use Rattle.machine_runner.proofs.Firsts.{era_within}
 use Rattle.layer_laws.specs.Counters.{Bears}
 use Rattle.layer_laws.specs.CounterLayers.{LayerRun, scene}
@@ -20,7 +21,6 @@ use Rattle.layer_lines.specs.SlotTexts.{begins_at}
 use Rattle.layer_lines.proofs.CountedSlots as counted
 use Rattle.layer_lines.proofs.EraCounting.{run_long, played_eras_count}
 use Rattle.layer_lines.proofs.EraCounting as eras
-use Rattle.layer_lines.proofs.Leads.{borne_in}
 use Rattle.layer_lines.proofs.SlotParts.{before_end}
 
 module _ {Kept : Type 0} (counter : Meaning) (is_state : (v : ℕ) → State → Type 0)
@@ -44,7 +44,7 @@ module _ {Kept : Type 0} (counter : Meaning) (is_state : (v : ℕ) → State →
     slot = counted.counts counter script layer began counts q t begins
 
     pub borne : Bears counter (faulty_of_era script (era_of script t))
-    borne = borne_in counter script plays.borne (era_of script t) (era_within script t)
+    borne = of_each_era (Bears counter) script (era_of script t) (era_within script t) plays.borne
 
     pub is_run : LayerRun counter is_state layer (faulty_of_era script (era_of script t))
         (first_of_era script (era_of script t))
@@ -87,7 +87,7 @@ module _ {Kept : Type 0} (counter : Meaning) (is_state : (v : ℕ) → State →
     all_are =
         subst (λ (s : Scene Kept). AllAre counter faulty s.states q 0) (sym scene_here) slot.rest
 
-    -- who is faulty at the slot's end was so at its begin
+    -- who is faulty at the slot's end was so at its beginning
     pub correct_there : (v : ℕ) → is_in (faulty_at script (t + q)) v ≡ false
         → is_in (faulty_of_era script (era_of script t)) v ≡ false
     correct_there v = subst (λ j. is_in (faulty_of_era script j) v ≡ false) slot.inside

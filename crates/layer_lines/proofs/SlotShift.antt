@@ -76,7 +76,7 @@ module _ (f : ℕ → List ℕ) (q first last end : ℕ) (beyond : (t : ℕ) →
             ∙ (sym (rows_more f first last t) ∙ ap before next))
       ]))
 
-  -- what is behind the end is empty
+  -- what is after the end is empty
   hidden : (t : ℕ) (b : Bool) → f t ≡ [] → cond b (f t) [] ≡ []
   hidden t true e = e
   hidden t false e = refl
@@ -121,7 +121,7 @@ module _ (counter : Meaning) (script : Script) (q : ℕ) (config_at : ℕ → Li
     abbrev at_end : ℕ → List ℕ
     at_end c = cond (ends_at counter script q c (config_at c)) (line (c - q)) []
 
-    -- a slot that ends behind the rounds does not count
+    -- a slot that ends after the rounds does not count
     no_slot : (low era within : Bool) (x : Bool) (text : List ℕ) → within ≡ false
         → cond ((low && era && within) && x) text [] ≡ []
     no_slot true true within x text out = ap (λ (b : Bool). cond (b && x) text []) out

@@ -1,4 +1,4 @@
--- Which slots count: those of which a line is written, where they begin in a configuration that is
+-- Which slots count: those of which a line is written, if they begin in a configuration that is
 -- shown.
 use Rattle.std.specs.Prelude.{◌≡◌, ◌↔◌, ℕ, ◌+◌, ◌<◌, ◌≤◌, List, true}
 use Rattle.sync_types.specs.States.{State}
@@ -27,7 +27,7 @@ SlotsAreExact counter script config_at q =
     (t : ℕ) → (begins_at counter script q t (config_at t) ≡ true)
     ↔ SlotCounts counter script config_at q t
 
--- So it is of what is played, where each era is a run with the layer.
+-- So it is of what is played, if each era is a run with the layer.
 abbrev pub SlotsCountOver : {Kept : Type 0} → Layer Kept → (counter : Meaning)
     (is_state : (v : ℕ) → State → Type 0) → Type 0
 SlotsCountOver {Kept} layer counter is_state = (script : Script) (began : List Kept)

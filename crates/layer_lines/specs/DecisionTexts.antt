@@ -5,8 +5,8 @@ use Rattle.std.specs.List.{concat}
 use Rattle.counter_core.specs.Meanings.{Meaning}
 use Rattle.adversary_script.specs.Scripts.{Script}
 use Rattle.adversary_script.specs.Eras.{faulty_at}
-use Rattle.run_texts.specs.FirstLocked.{LockTest}
-use Rattle.run_texts.specs.RunTexts.{bound_line, number_word, words_of}
+use Rattle.machine_runner.specs.FirstLocked.{LockTest}
+use Rattle.machine_runner.specs.RunTexts.{bound_line, number_word, words_of}
 use Rattle.layer_laws.specs.Numbers.{numbers_in}
 use Rattle.layer_laws.specs.Scenes.{Scene}
 use Rattle.layer_laws.specs.Slots.{slot_length}
@@ -28,7 +28,7 @@ module _ (counter : Meaning) (script : Script) (said : AgreeSaid) where
   abbrev pub slot_of : ℕ
   slot_of = slot_length counter.faults
 
-  -- scene c of what is played, where each decision is 0 at first
+  -- scene c of what is played, if each decision is 0 at first
   abbrev pub agree_scene : (c : ℕ) → Scene ℕ
   agree_scene c =
       scene_in counter script (agree_layer_over (numbers_in counter) said.values said.inputs)
@@ -49,7 +49,7 @@ decision_text counter locked script said =
     (λ c. (agree_scene counter script said c).states) (decision_line counter script said)
     ∷ lock_lines locked script (λ c. (agree_scene counter script said c).states) ∷ [])
 
--- how it is written while the script is played, where a slot has so many rounds
+-- how it is written while the script is played, if a slot has so many rounds
 abbrev pub decision_wording : (length : ℕ) → Wording ℕ
 decision_wording length = record {
   label = [];

@@ -6,8 +6,8 @@ use Rattle.std.specs.List.{concat}
 use Rattle.counter_core.specs.Meanings.{Meaning}
 use Rattle.adversary_script.specs.Scripts.{Script}
 use Rattle.adversary_script.specs.Eras.{faulty_at}
-use Rattle.run_texts.specs.FirstLocked.{LockTest}
-use Rattle.run_texts.specs.RunTexts.{bound_line, number_word, words_of}
+use Rattle.machine_runner.specs.FirstLocked.{LockTest}
+use Rattle.machine_runner.specs.RunTexts.{bound_line, number_word, words_of}
 use Rattle.layer_laws.specs.Numbers.{numbers_in}
 use Rattle.layer_laws.specs.Scenes.{Scene}
 use Rattle.replicated_log.specs.declared.entries.Entry.{Entry}
@@ -18,7 +18,7 @@ use Rattle.layer_lines.specs.LockTexts.{lock_lines}
 use Rattle.layer_lines.specs.PlayedTexts.{Wording, scene_in}
 use Rattle.layer_lines.specs.SlotTexts.{ends_at, lead_output, slot_lines}
 
--- the value of the newest entry, 0 where there is none
+-- the value of the newest entry, 0 if there is none
 abbrev pub newest_value : List Entry → ℕ
 newest_value [] = 0
 newest_value (entry ∷ log) = entry.value
@@ -32,7 +32,7 @@ abbrev pub entry_front : (t owner : ℕ) → List ℕ
 entry_front t owner = (codes "entry " ++ decimal t) ++ (codes " owner " ++ decimal owner)
 
 module _ (counter : Meaning) (script : Script) (said : LogSaid) where
-  -- scene c of what is played, where all logs are empty at first
+  -- scene c of what is played, if all logs are empty at first
   abbrev pub log_scene : (c : ℕ) → Scene (List Entry)
   log_scene c = scene_in counter script (log_layer_over (numbers_in counter) said)
       (replicate counter.nodes []) c
@@ -65,7 +65,7 @@ abbrev pub output_before : (modulus rounds output : ℕ) → ℕ
 output_before modulus rounds output =
     if nat_lt output rounds then output + modulus - rounds else output - rounds
 
--- how it is written while the script is played: the owner of a slot is told by the output at its
+-- how it is written while the script is played: the owner of a slot is found from the output at its
 -- end
 abbrev pub entry_wording : (nodes faults modulus : ℕ) → Wording (List Entry)
 entry_wording nodes faults modulus = record {

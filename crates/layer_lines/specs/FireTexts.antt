@@ -6,8 +6,8 @@ use Rattle.std.specs.List.{concat}
 use Rattle.counter_core.specs.Meanings.{Meaning}
 use Rattle.adversary_script.specs.Scripts.{Script}
 use Rattle.adversary_script.specs.Eras.{faulty_at}
-use Rattle.run_texts.specs.FirstLocked.{LockTest}
-use Rattle.run_texts.specs.RunTexts.{bound_line, words_of}
+use Rattle.machine_runner.specs.FirstLocked.{LockTest}
+use Rattle.machine_runner.specs.RunTexts.{bound_line, words_of}
 use Rattle.layer_laws.specs.Numbers.{numbers_in}
 use Rattle.layer_laws.specs.Scenes.{Scene}
 use Rattle.layer_laws.specs.Slots.{slot_length}
@@ -31,7 +31,7 @@ abbrev pub fire_front : (t : ℕ) → List ℕ
 fire_front t = codes "fire " ++ decimal t
 
 module _ (counter : Meaning) (script : Script) (requests : List Request) where
-  -- scene c of what is played, where none fires at first
+  -- scene c of what is played, if none fires at first
   abbrev pub fire_scene : (c : ℕ) → Scene Fire
   fire_scene c =
       scene_in counter script (fire_layer_over (numbers_in counter) requests)
@@ -52,7 +52,7 @@ fire_text counter locked script requests =
     (λ c. (fire_scene counter script requests c).states) (fire_line counter script requests)
     ∷ lock_lines locked script (λ c. (fire_scene counter script requests c).states) ∷ [])
 
--- how it is written while the script is played, where a slot has so many rounds
+-- how it is written while the script is played, if a slot has so many rounds
 abbrev pub fire_wording : (length : ℕ) → Wording Fire
 fire_wording length = record {
   label = [];

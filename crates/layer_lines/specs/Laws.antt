@@ -3,7 +3,7 @@ use Rattle.std.specs.Prelude.{◌≡◌, ℕ, ◌*◌, ◌%◌, List, [], replic
 use Rattle.counter_core.specs.Meanings.{Meaning}
 use Rattle.counter_core.specs.Overlays.{Layer}
 use Rattle.adversary_script.specs.Scripts.{Script}
-use Rattle.run_texts.specs.FirstLocked.{LockTest}
+use Rattle.machine_runner.specs.FirstLocked.{LockTest}
 use Rattle.layer_laws.specs.Numbers.{numbers_in}
 use Rattle.layer_laws.specs.Slots.{slot_length}
 use Rattle.consensus_layer.specs.AgreeSaid.{AgreeSaid}
@@ -21,7 +21,7 @@ use Rattle.layer_lines.specs.DecisionTexts.{decision_text, decision_wording}
 use Rattle.layer_lines.specs.FireTexts.{fire_text, fire_wording}
 use Rattle.layer_lines.specs.EntryTexts.{log_text, entry_wording}
 
--- the lines of consensus, where the modulus is a multiple of a slot
+-- the lines of consensus, if the modulus is a multiple of a slot
 abbrev pub DecisionsAsDefined : Type 0
 DecisionsAsDefined = (counter : Meaning) (locked : LockTest) (script : Script) (said : AgreeSaid)
     → counter.modulus % slot_length counter.faults ≡ 0
@@ -31,7 +31,7 @@ DecisionsAsDefined = (counter : Meaning) (locked : LockTest) (script : Script) (
     (decision_wording (slot_length counter.faults))
     ≡ decision_text counter locked script said
 
--- the lines of firing, where it is one
+-- the lines of firing, if it is one
 abbrev pub FiresAsDefined : Type 0
 FiresAsDefined = (counter : Meaning) (locked : LockTest) (script : Script)
     (requests : List Request) → counter.modulus % slot_length counter.faults ≡ 0
@@ -41,7 +41,7 @@ FiresAsDefined = (counter : Meaning) (locked : LockTest) (script : Script)
     (fire_wording (slot_length counter.faults))
     ≡ fire_text counter locked script requests
 
--- the lines of a log, where the modulus is a multiple of an entry of each node
+-- the lines of a log, if the modulus is a multiple of an entry of each node
 abbrev pub EntriesAsDefined : Type 0
 EntriesAsDefined = (counter : Meaning) (locked : LockTest) (script : Script) (said : LogSaid)
     → counter.modulus % (counter.nodes * entry_length counter.faults) ≡ 0

@@ -6,7 +6,7 @@ use Rattle.sync_types.specs.States.{State}
 use Rattle.counter_core.specs.Meanings.{Meaning}
 use Rattle.adversary_script.specs.Scripts.{Script}
 use Rattle.adversary_script.specs.Eras.{faulty_at}
-use Rattle.run_texts.specs.RunTexts.{number_word}
+use Rattle.machine_runner.specs.RunTexts.{number_word}
 use Rattle.layer_laws.specs.CounterSlots.{slot_length}
 use Rattle.layer_laws.specs.Numbers.{numbers_in}
 use Rattle.layer_lines.specs.PlayedEras.{PlaysEras}
@@ -84,8 +84,8 @@ pub record HasNewest (log : List Entry) (entry : Entry) : Type 0 where
   pub is : log ≡ entry ∷ older
 
 -- The line of a slot that begins in configuration t: its entry stands newest in the log of each
--- correct node, and the words are the entry's value. Where the owner that the line names is
--- correct, this is what the owner commands at the slot's output.
+-- correct node, and the words are the entry's value. If the owner that the line names is correct,
+-- this is what the owner commands at the slot's output.
 pub record LinePuts (counter : Meaning) (script : Script) (said : LogSaid) (t : ℕ) : Type 0 where
   pub entry : Entry
   pub slot : entry.slot ≡ output_at counter script said t

@@ -3,8 +3,8 @@ use Rattle.std.specs.Prelude.{ℕ, ◌+◌, List, Option, position}
 use Rattle.std.specs.List.{range_with_len}
 use Rattle.sync_types.specs.States.{State}
 use Rattle.adversary_script.specs.Scripts.{Script}
-use Rattle.run_texts.specs.FirstLocked.{LockTest, era_locked}
-use Rattle.run_texts.specs.RunTexts as texts
+use Rattle.machine_runner.specs.FirstLocked.{LockTest, era_locked}
+use Rattle.machine_runner.specs.RunTexts as texts
 
 module _ (locked : LockTest) (script : Script) (config_at : ℕ → List State) where
   -- The first locked configuration of era j among those that are played. It stands at its own place

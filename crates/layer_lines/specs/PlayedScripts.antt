@@ -13,11 +13,11 @@ use Rattle.adversary_script.specs.Rounds.{starts, lies_at}
 use Rattle.layer_laws.specs.CounterLayers.{StepsAs}
 use Rattle.layer_laws.specs.CounterPlayed.{IsKeptFor}
 use Rattle.layer_laws.specs.Scenes.{Scene, kept_of, layer_step}
-use Rattle.layer_runs.specs.Scenes.{scene_at}
+use Rattle.layer_laws.specs.PlayedScenes.{scene_at}
 
 module _ {Kept : Type 0} (counter : Meaning) (script : Script) (layer : Layer Kept)
     (began : List Kept) where
-  -- scene t of what is played, where the nodes began with these things kept
+  -- scene t of what is played, if the nodes began with these things kept
   abbrev pub played_scene : (t : ℕ) → Scene Kept
   played_scene t = scene_at counter script layer began t
 
@@ -30,9 +30,9 @@ module _ {Kept : Type 0} (counter : Meaning) (script : Script) (layer : Layer Ke
   heard_played t v =
       heard_by counter.nodes (faulty_at script t) (played_scene t).states (lies_played t) v
 
-  -- The first scene has the script's starts. After a round, also where an era begins there, a node
+  -- The first scene has the script's starts. After a round, also if an era begins there, a node
   -- that has a start line there is in its state, and each other one steps from what it hears, also
-  -- the puppet of a faulty one. What each node keeps is what the layer's step left, also where the
+  -- the puppet of a faulty one. What each node keeps is what the layer's step left, also if the
   -- node is put into a state. In each round the lies are the script's: what a faulty node tells
   -- another is what the first lie of the script that says this gives, or else its puppet's state.
   pub record PlaysScript : Type 0 where
@@ -51,8 +51,8 @@ module _ {Kept : Type 0} (counter : Meaning) (script : Script) (layer : Layer Ke
         → state_of (slice_index_or (lies_played t) u []) v
         ≡ lie_of script t u v (played_scene t).states
 
--- What is played of a script of a counter's nodes is the script's, where something is kept for each
--- of them.
+-- What is played of a script of a counter's nodes is the script's, if something is kept for each of
+-- them.
 abbrev pub ScriptsArePlayedOver : {Kept : Type 0} → Layer Kept → Type 0
 ScriptsArePlayedOver {Kept} layer = (counter : Meaning) (script : Script) (began : List Kept)
     → script.nodes ≡ counter.nodes → IsKeptFor counter.nodes began

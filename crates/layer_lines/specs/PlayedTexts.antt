@@ -8,20 +8,20 @@ use Rattle.counter_core.specs.Meanings.{Meaning}
 use Rattle.counter_core.specs.Overlays.{Layer}
 use Rattle.adversary_script.specs.Scripts.{Script}
 use Rattle.adversary_script.specs.Eras.{faulty_at}
-use Rattle.run_texts.specs.FirstLocked.{LockTest}
-use Rattle.run_texts.specs.RunTexts.{bound_line, words_of}
+use Rattle.machine_runner.specs.FirstLocked.{LockTest}
+use Rattle.machine_runner.specs.RunTexts.{bound_line, words_of}
 use Rattle.layer_laws.specs.Scenes.{Scene}
-use Rattle.layer_runs.specs.Scenes.{scene_at}
-use Rattle.layer_runs.specs.Positions.{Position}
+use Rattle.layer_laws.specs.PlayedScenes.{scene_at}
+use Rattle.layer_laws.specs.Positions.{Position}
 use Rattle.layer_lines.specs.LockTexts.{lock_lines}
 
--- a number behind a label
+-- a number after a label
 abbrev pub numbered : (label : List ℕ) → (value : ℕ) → Labelled
 numbered label value = record { label = label; value = value }
 
--- The lines of a word: what stands before the number of a configuration, where a front is that
--- number; of which configurations a line is written, each by the counter, the script, its number
--- and its scene; the front of a line; and in it the word of a node that is correct there.
+-- The lines of a word: what stands before the number of a configuration, if a front is that number;
+-- of which configurations a line is written, each by the counter, the script, its number and its
+-- scene; the front of a line; and in it the word of a node that is correct there.
 pub record Wording (Kept : Type 0) : Type 0 where
   pub label : List ℕ
   pub shows : Meaning → Script → (c : ℕ) → Scene Kept → Bool
@@ -36,7 +36,7 @@ line_of wording counter script c scene =
     ∷ words_of counter.nodes (wording.word counter scene) (faulty_at script c)
     ∷ codes "\n" ∷ [])
 
--- that line, where there is one
+-- that line, if there is one
 abbrev pub line_if_shown : {Kept : Type 0} → Wording Kept → Meaning → Script → (c : ℕ)
     → Scene Kept → List ℕ
 line_if_shown wording counter script c scene =
@@ -44,14 +44,14 @@ line_if_shown wording counter script c scene =
 
 module _ {Kept : Type 0} (counter : Meaning) (script : Script) (layer : Layer Kept)
     (began : List Kept) where
-  -- scene c of what is played, where the nodes began with these things kept
+  -- scene c of what is played, if the nodes began with these things kept
   abbrev pub scene_in : (c : ℕ) → Scene Kept
   scene_in c = scene_at counter script layer began c
 
   abbrev pub configuration_in : (c : ℕ) → List State
   configuration_in c = (scene_in c).states
 
-  -- the line of configuration c, where there is one
+  -- the line of configuration c, if there is one
   abbrev pub line_in : Wording Kept → (c : ℕ) → List ℕ
   line_in wording c = line_if_shown wording counter script c (scene_in c)
 
@@ -59,7 +59,7 @@ module _ {Kept : Type 0} (counter : Meaning) (script : Script) (layer : Layer Ke
   abbrev pub lines_text : Wording Kept → List ℕ
   lines_text wording = flat_map (line_in wording) (range_with_len 0 (script.rounds + 1))
 
-  -- those of configuration c and of the ones behind it before that end
+  -- those of configuration c and of the ones after it before that end
   abbrev pub lines_between : Wording Kept → (c end : ℕ) → List ℕ
   lines_between wording c end = flat_map (line_in wording) (range_with_len c (end - c))
 
@@ -72,7 +72,7 @@ played_text counter locked script layer began wording =
 
 -- ---- of a play, where it stands
 
--- its line, where there is one
+-- its line, if there is one
 abbrev pub line_at : {Kept : Type 0} → Wording Kept → Position Kept → List ℕ
 line_at wording p = line_if_shown wording p.counter p.script p.at p.scene
 

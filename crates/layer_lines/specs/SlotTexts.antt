@@ -8,7 +8,7 @@ use Rattle.construction.specs.Steps.{state_of}
 use Rattle.counter_core.specs.Meanings.{Meaning}
 use Rattle.adversary_script.specs.Scripts.{Script}
 use Rattle.adversary_script.specs.Eras.{era_of, first_of_era, faulty_at}
-use Rattle.layer_runs.specs.Lowest.{lowest_correct}
+use Rattle.layer_laws.specs.Lowest.{lowest_correct}
 
 -- what node v shows
 abbrev pub output_of : Meaning → List State → (v : ℕ) → ℕ
@@ -20,7 +20,7 @@ lead_output counter script c config =
     output_of counter config (lowest_correct counter.nodes (faulty_at script c))
 
 -- Whether a slot of q rounds that begins in configuration t counts: it begins later than the bound
--- after the begin of its era, and ends in that era and within the rounds.
+-- after the beginning of its era, and ends in that era and within the rounds.
 abbrev pub counts_at : (bound : ℕ) → Script → (q t : ℕ) → Bool
 counts_at bound script q t =
     nat_lt (first_of_era script (era_of script t) + bound) t

@@ -3,8 +3,8 @@ ghost use Rattle.layer_laws.specs.Slots.{slot_length};
 
 use crate::{Lines, slot_ends};
 use consensus_layer::{Agreement, slot_length};
-use edge_io::{RisingText, TextSink, WriteFault};
-use layer_runs::Play;
+use edge_io::{RisingText, Sink, Writer};
+use layer_laws::Play;
 
 /// The lines of consensus: of each slot that counts and begins in a configuration that is shown,
 /// the decisions where it ends.
@@ -40,22 +40,17 @@ impl Lines<Agreement> for DecisionLines {
         slot_ends(play, self.length)
     }
 
-    fn put_front<K: TextSink, P: Play<Agreement>>(
+    fn put_front<K: Sink, P: Play<Agreement>>(
         &self,
-        sink: &mut K,
+        writer: &mut Writer<'_, K>,
         play: &P,
         _number: &RisingText,
-    ) -> Result<(), WriteFault> {
-        sink.labelled(b"slot ", play.at() - self.length)
+    ) {
+        writer.labelled(b"slot ", play.at() - self.length);
     }
 
-    fn put_word<K: TextSink, P: Play<Agreement>>(
-        &self,
-        sink: &mut K,
-        play: &P,
-        v: u32,
-    ) -> Result<(), WriteFault> {
-        play.tell();
-        sink.labelled(b" ", play.overlay().decision(v))
+    fn put_word<K: Sink, P: Play<Agreement>>(&self, writer: &mut Writer<'_, K>, play: &P, v: u32) {
+        play.facts();
+        writer.labelled(b" ", play.overlay().decision(v));
     }
 }

@@ -3,9 +3,9 @@ ghost use Rattle.layer_laws.specs.Slots.{slot_length};
 
 use crate::{Lines, slot_ends};
 use consensus_layer::slot_length;
-use edge_io::{RisingText, TextSink, WriteFault};
+use edge_io::{RisingText, Sink, Writer};
 use firing::Firing;
-use layer_runs::Play;
+use layer_laws::Play;
 
 /// The lines of firing: of each slot that counts and begins in a configuration that is shown, which
 /// nodes fire where it ends.
@@ -43,26 +43,21 @@ impl Lines<Firing> for Fires {
         slot_ends(play, self.length)
     }
 
-    fn put_front<K: TextSink, P: Play<Firing>>(
+    fn put_front<K: Sink, P: Play<Firing>>(
         &self,
-        sink: &mut K,
+        writer: &mut Writer<'_, K>,
         play: &P,
         _number: &RisingText,
-    ) -> Result<(), WriteFault> {
-        sink.labelled(b"fire ", play.at() - self.length)
+    ) {
+        writer.labelled(b"fire ", play.at() - self.length);
     }
 
-    fn put_word<K: TextSink, P: Play<Firing>>(
-        &self,
-        sink: &mut K,
-        play: &P,
-        v: u32,
-    ) -> Result<(), WriteFault> {
-        play.tell();
+    fn put_word<K: Sink, P: Play<Firing>>(&self, writer: &mut Writer<'_, K>, play: &P, v: u32) {
+        play.facts();
         if play.overlay().fired(v) {
-            sink.text(b" 1")
+            writer.text(b" 1");
         } else {
-            sink.text(b" .")
+            writer.text(b" .");
         }
     }
 }

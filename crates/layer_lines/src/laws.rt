@@ -25,7 +25,7 @@ pub fn fires_as_defined()
 
 /// What is written of a log while a script is played, each line where its slot ends, is a line of
 /// each slot that counts and begins in a configuration that is shown, in the order of these. Its
-/// owner is that of the output there, though it is told by the output at the slot's end.
+/// owner is that of the output there, though it is found from the output at the slot's end.
 pub fn entries_as_defined()
     ensures { EntriesAsDefined }
 {}
@@ -37,36 +37,36 @@ pub fn scripts_are_played_over<O: Overlay>()
     ensures { (layer : Layer O.Kept) → ScriptsArePlayedOver layer }
 {}
 
-/// What is played of each era of a script counts from the bound on, where it is a run of a settling
+/// What is played of each era of a script counts from the bound on, if it is a run of a settling
 /// counter with the layer.
 pub fn played_eras_count<C: AnyCounter, O: Overlay>()
     ensures { (c : C) (layer : Layer O.Kept)
         → PlayedErasCount layer (C.counter c) (C.is_state c) }
 {}
 
-/// Where what is played of each era is a run of a settling counter with the layer, a line of a slot
-/// is written just where a slot begins in a configuration that is shown, later than the bound in
-/// its era, and ends in that era and within the rounds.
+/// If what is played of each era is a run of a settling counter with the layer, a line of a slot is
+/// written exactly if a slot begins in a configuration that is shown, later than the bound in its
+/// era, and ends in that era and within the rounds.
 pub fn slots_count_over<C: AnyCounter, O: Overlay>()
     ensures { (c : C) (layer : Layer O.Kept)
         → SlotsCountOver layer (C.counter c) (C.is_state c) }
 {}
 
 /// In each line of a slot of consensus the words of all correct nodes are one number, which is
-/// their common input where they have one.
+/// their common input if they have one.
 pub fn lines_decide_over<C: AnyCounter>()
     ensures { (c : C) → LinesDecideOver (C.counter c) (C.is_state c) }
 {}
 
 /// In each line of a slot of firing all words of correct nodes say that they fire, or all that they
-/// don't: as the correct nodes requested in the round before the slot, where they did the same.
+/// don't: as the correct nodes requested in the round before the slot, if they did the same.
 pub fn lines_fire_together_over<C: AnyCounter>()
     ensures { (c : C) → LinesFireTogetherOver (C.counter c) (C.is_state c) }
 {}
 
 /// In each line of a slot of the log the words of all correct nodes are one number, the value of
-/// the slot's own entry, which stands newest in the log of each of them. Where the owner that the
-/// line names is correct, it is what the owner commands at the output with which the slot begins.
+/// the slot's own entry, which stands newest in the log of each of them. If the owner that the line
+/// names is correct, it is what the owner commands at the output with which the slot begins.
 pub fn lines_put_one_over<C: AnyCounter>()
     ensures { (c : C) → LinesPutOneOver (C.counter c) (C.is_state c) }
 {}

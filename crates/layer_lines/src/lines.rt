@@ -1,10 +1,10 @@
 ghost use Rattle.std.specs.Prelude.{◌≡◌, ◌<◌, ◌≤◌, true, length};
-ghost use Rattle.texts.specs.Growth.{Puts};
+ghost use Rattle.edge_io.specs.Writing.{Writes};
 ghost use Rattle.layer_lines.specs.PlayedTexts.{Wording, numbered};
 
 use counter_core::Overlay;
-use edge_io::{RisingText, TextSink, WriteFault};
-use layer_runs::Play;
+use edge_io::{RisingText, Sink, Writer};
+use layer_laws::Play;
 
 /// What a word writes while a script is played with a layer: lines of some configurations, each
 /// with a front and a word of each node.
@@ -22,30 +22,25 @@ pub trait Lines<O: Overlay>: Drop {
         ensures { result ≡ (wording self.now).shows (P.position play.now).counter
             (P.position play.now).script (P.position play.now).at (P.position play.now).scene };
 
-    /// Writes the front of its line. `number` is that of the configuration, behind the label.
-    fn put_front<K: TextSink, P: Play<O>>(
+    /// Writes what its line begins with. `number` is that of the configuration, after the label.
+    fn put_front<K: Sink, P: Play<O>>(
         &self,
-        sink: &mut K,
+        writer: &mut Writer<'_, K>,
         play: &P,
         number: &RisingText,
-    ) -> Result<(), WriteFault>
+    )
         requires shown { (wording self.now).shows (P.position play.now).counter
             (P.position play.now).script (P.position play.now).at (P.position play.now).scene
             ≡ true }
         requires number { number.now
             ≡ numbered (wording self.now).label (P.position play.now).at }
-        ensures { Puts result ((wording self.now).front (P.position play.now).counter
+        ensures { Writes K.told ((wording self.now).front (P.position play.now).counter
             (P.position play.now).script (P.position play.now).at (P.position play.now).scene)
-            (K.Sink.told sink.old) (K.Sink.told sink.new) };
+            writer.old writer.new };
 
     /// Writes the word of node `v`, which is correct there.
-    fn put_word<K: TextSink, P: Play<O>>(
-        &self,
-        sink: &mut K,
-        play: &P,
-        v: u32,
-    ) -> Result<(), WriteFault>
+    fn put_word<K: Sink, P: Play<O>>(&self, writer: &mut Writer<'_, K>, play: &P, v: u32)
         requires { v < (P.position play.now).counter.nodes }
-        ensures { Puts result ((wording self.now).word (P.position play.now).counter
-            (P.position play.now).scene v) (K.Sink.told sink.old) (K.Sink.told sink.new) };
+        ensures { Writes K.told ((wording self.now).word (P.position play.now).counter
+            (P.position play.now).scene v) writer.old writer.new };
 }

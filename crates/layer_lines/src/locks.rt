@@ -1,47 +1,35 @@
 ghost use Rattle.std.specs.Prelude.{◌≤◌, ℕ, None, length, slice_index_or};
-ghost use Rattle.texts.specs.Growth.{Puts};
-ghost use Rattle.run_texts.specs.RunTexts.{era_line, lock_lines};
+ghost use Rattle.edge_io.specs.Writing.{Writes};
+ghost use Rattle.machine_runner.specs.RunTexts.{era_line, lock_lines};
 
 use counter_core::Overlay;
-use edge_io::{TextSink, WriteFault};
-use layer_runs::Play;
-use run_texts::put_locked;
+use edge_io::{Sink, Writer};
+use layer_laws::Play;
+use machine_runner::put_locked;
 
 /// Writes the line of an era, with its first locked configuration so far.
-fn put_era<K: TextSink, O: Overlay, P: Play<O>>(
-    sink: &mut K,
-    play: &P,
-    era: usize,
-) -> Result<(), WriteFault>
+fn put_era<K: Sink, O: Overlay, P: Play<O>>(writer: &mut Writer<'_, K>, play: &P, era: usize)
     requires { era ≤ length (P.position play.now).script.eras }
-    ensures { Puts result (era_line (P.position play.now).script
+    ensures { Writes K.told (era_line (P.position play.now).script
         (λ j. slice_index_or (P.position play.now).locks j None) era)
-        (K.Sink.told sink.old) (K.Sink.told sink.new) }
+        writer.old writer.new }
 {
     let first = play.script().era_start(era);
-    run_texts::put_era(sink, first, play.lock_of(era))
+    machine_runner::put_era(writer, first, play.lock_of(era));
 }
 
 /// Writes the first locked configuration so far of each era: for a script of version 1 one line,
 /// else one for each era, with the configuration that it begins with.
-///
-/// `WriteFault` comes where the sink counted one; a front of the lines was then taken.
-pub fn put_locks<K: TextSink, O: Overlay, P: Play<O>>(
-    sink: &mut K,
-    play: &P,
-) -> Result<(), WriteFault>
-    ensures { Puts result (lock_lines (P.position play.now).script
+pub fn put_locks<K: Sink, O: Overlay, P: Play<O>>(writer: &mut Writer<'_, K>, play: &P)
+    ensures { Writes K.told (lock_lines (P.position play.now).script
         (λ j. slice_index_or (P.position play.now).locks j None))
-        (K.Sink.told sink.old) (K.Sink.told sink.new) }
+        writer.old writer.new }
 {
     if play.script().version() == 1 {
-        return put_locked(sink, play.lock_of(0));
+        put_locked(writer, play.lock_of(0));
+        return;
     }
     for era in 0..play.script().eras() {
-        match put_era(sink, play, era) {
-            Ok(()) => {}
-            Err(WriteFault) => return Err(WriteFault),
-        }
+        put_era(writer, play, era);
     }
-    Ok(())
 }

@@ -1,14 +1,13 @@
 ghost use Rattle.std.specs.Prelude.{◌≡◌, ◌*◌, ◌%◌, ◌<◌, ◌≤◌, ◌^◌};
-ghost use Rattle.texts.specs.Growth.{Puts};
+ghost use Rattle.edge_io.specs.Writing.{Writes};
 ghost use Rattle.replicated_log.specs.EntryLength.{entry_length};
 ghost use Rattle.replicated_log.specs.Logs.{log_in};
 ghost use Rattle.replicated_log.specs.LogsSeen.{layer_seen, logs_seen};
 ghost use Rattle.layer_lines.specs.EntryTexts.{newest_value, output_before, entry_front};
 
 use crate::{Lines, lead_output, slot_ends};
-use edge_io::{RisingText, TextSink, WriteFault};
-use layer_laws::CounterNumbers;
-use layer_runs::Play;
+use edge_io::{RisingText, Sink, Writer};
+use layer_laws::{CounterNumbers, Play};
 use replicated_log::{Replica, entry_length, owner_at};
 
 /// The lines of a log: of each slot that counts and begins in a configuration that is shown, its
@@ -37,7 +36,7 @@ fn output_before(modulus: u64, rounds: u64, output: u64) -> u64
     }
 }
 
-/// The value of the newest entry in the log of node `v`, 0 where there is none.
+/// The value of the newest entry in the log of node `v`, 0 if there is none.
 fn newest_value(replica: &Replica, v: u32) -> u64
     requires { v < (layer_seen replica.now).nodes }
     ensures { result ≡ newest_value (log_in (logs_seen replica.now) v) }
@@ -50,11 +49,11 @@ fn newest_value(replica: &Replica, v: u32) -> u64
 }
 
 /// Writes the front of the line of a slot that begins in configuration `t` and is of this owner.
-fn put_slot<K: TextSink>(sink: &mut K, t: u64, owner: u32) -> Result<(), WriteFault>
-    ensures { Puts result (entry_front t owner) (K.Sink.told sink.old) (K.Sink.told sink.new) }
+fn put_slot<K: Sink>(writer: &mut Writer<'_, K>, t: u64, owner: u32)
+    ensures { Writes K.told (entry_front t owner) writer.old writer.new }
 {
-    sink.labelled(b"entry ", t)?;
-    sink.labelled(b" owner ", u64::from(owner))
+    writer.labelled(b"entry ", t);
+    writer.labelled(b" owner ", u64::from(owner));
 }
 
 impl Logged {
@@ -66,7 +65,7 @@ impl Logged {
         requires { numbers.now.modulus % (numbers.now.nodes * entry_length numbers.now.faults) ≡ 0 }
         ensures { IsLoggedFor numbers.now result }
     {
-        numbers.tell();
+        numbers.facts();
         Logged {
             nodes: numbers.nodes(),
             faults: numbers.faults(),
@@ -88,26 +87,21 @@ impl Lines<Replica> for Logged {
         slot_ends(play, entry_length(self.faults))
     }
 
-    fn put_front<K: TextSink, P: Play<Replica>>(
+    fn put_front<K: Sink, P: Play<Replica>>(
         &self,
-        sink: &mut K,
+        writer: &mut Writer<'_, K>,
         play: &P,
         _number: &RisingText,
-    ) -> Result<(), WriteFault> {
+    ) {
         let length = entry_length(self.faults);
         let output = output_before(self.modulus, length, lead_output(play));
         let owner = owner_at(self.nodes, self.faults, output);
-        put_slot(sink, play.at() - length, owner)
+        put_slot(writer, play.at() - length, owner);
     }
 
-    fn put_word<K: TextSink, P: Play<Replica>>(
-        &self,
-        sink: &mut K,
-        play: &P,
-        v: u32,
-    ) -> Result<(), WriteFault> {
-        play.tell();
+    fn put_word<K: Sink, P: Play<Replica>>(&self, writer: &mut Writer<'_, K>, play: &P, v: u32) {
+        play.facts();
         let value = newest_value(play.overlay(), v);
-        sink.labelled(b" ", value)
+        writer.labelled(b" ", value);
     }
 }

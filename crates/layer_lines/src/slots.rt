@@ -3,20 +3,20 @@ ghost use Rattle.layer_lines.specs.SlotTexts.{lead_output, counts_at, may_end_at
 
 use adversary_script::Script;
 use counter_core::Overlay;
-use layer_runs::{Play, lowest_correct};
+use layer_laws::{Play, lowest_correct};
 
 /// What the correct node of the lowest id shows in the play's configuration.
 pub fn lead_output<O: Overlay, P: Play<O>>(play: &P) -> u64
     ensures { result ≡ lead_output (P.position play.now).counter (P.position play.now).script
         (P.position play.now).at (P.position play.now).scene.states }
 {
-    play.tell();
+    play.facts();
     let faulty = play.script().faulty_at(play.at());
     play.output(lowest_correct(play.nodes(), faulty))
 }
 
 /// Whether a slot of so many rounds that begins in configuration `t` counts: later than the bound
-/// after the begin of its era, and to its end in that era and within the rounds.
+/// after the beginning of its era, and to its end in that era and within the rounds.
 fn counts(script: &Script, bound: u64, length: u64, t: u64) -> bool
     requires short { length ≤ 1000 }
     requires few { t ≤ 1000000 }
@@ -43,8 +43,9 @@ fn may_end(script: &Script, bound: u64, length: u64, at: u64) -> bool
 }
 
 /// Whether a slot of `length` rounds ends in the play's configuration of which a line is written:
-/// it began in a configuration that is shown, later than the bound after the begin of its era, and
-/// ends in that era. `length` is at least 1 and at most 1000, and divides the counter's modulus.
+/// it began in a configuration that is shown, later than the bound after the beginning of its era,
+/// and ends in that era. `length` is at least 1 and at most 1000, and divides the counter's
+/// modulus.
 pub fn slot_ends<O: Overlay, P: Play<O>>(play: &P, length: u64) -> bool
     requires some { 1 ≤ length }
     requires short { length ≤ 1000 }

@@ -4,24 +4,23 @@ use Rattle.std.proofs.Common.{◌≡◌, ℕ, ◌+◌, ◌-◌, ◌<◌, ◌≤�
 use Rattle.std.proofs.Common.{◌∙◌, subst, arith}
 use Rattle.std.specs.Prelude.{false}
 use Rattle.std.proofs.lemmas.List.{length-map}
-use Rattle.std.proofs.lemmas.List.Elements.{All-get_or}
-use Rattle.std.proofs.lemmas.List.FromFn.{length-map-range_with_len, get_or-map-range_with_len}
 use Rattle.sync_types.specs.States.{State}
 use Rattle.construction.specs.Steps.{state_of}
 use Rattle.construction.specs.Runs.{is_in, configuration}
 use Rattle.counter_core.specs.Meanings.{Meaning, cut}
 use Rattle.counter_core.specs.Overlays.{Layer}
 use Rattle.machines.specs.Machines.{Machine, IsState, IsBorne, Run, CountsFrom}
-use Rattle.adversary_script.specs.Scripts.{Script, Era, faulty_sets}
-use Rattle.adversary_script.specs.Eras.{first_of_era, end_of_era, faulty_of_era, faulty_at}
+use Rattle.adversary_script.specs.Scripts.{Script}
+use Rattle.adversary_script.specs.Eras.{first_of_era, end_of_era, faulty_of_era}
 use Rattle.adversary_script.specs.ScriptPart.{IsTolerated}
 use Rattle.adversary_script.specs.Rounds.{lies_at}
 use Rattle.layer_laws.specs.CounterLayers.{IsLayerConfiguration, LayerRound, LayerRun, IsNextScene}
-use Rattle.layer_laws.specs.CounterLayers.{scene, without_layer}
+use Rattle.layer_laws.specs.CounterLayers.{without_layer}
 use Rattle.layer_laws.specs.Scenes.{Scene}
 use Rattle.layer_laws.proofs.CounterCuts.{cut_at}
 use Rattle.layer_laws.proofs.CounterSlots.{runs_without_layer_over}
-use Rattle.machine_runner.proofs.Firsts.{in_era, none_inside, none_hit, era_some}
+use Rattle.machine_runner.proofs.Eras.{era_long, place_is, neighbours, of_each_era, same_faulty}
+use Rattle.machine_runner.proofs.Firsts.{none_inside, none_hit, era_some}
 use Rattle.machine_runner.proofs.Places.{each}
 use Rattle.layer_runner.specs.Counters.{machine_counter}
 use Rattle.layer_runner.specs.Laws.{IsPlayable, EraCountsFrom, ErasAreLayerRuns}
@@ -29,7 +28,7 @@ use Rattle.layer_runner.specs.Laws.{ErasCount, played_scene, era_scenes}
 use Rattle.layer_runner.proofs.CutStates.{state_of-cut}
 use Rattle.layer_runner.proofs.MachinesSettle.{machines_settle, run_of}
 use Rattle.layer_runner.proofs.SceneStates.{configuration_is, table_is}
-use Rattle.layer_runner.proofs.SceneSteps.{steps_as}
+use Rattle.layer_laws.proofs.SceneSteps.{steps_as}
 
 module _ {Kept : Type 0} (machine : Machine) (script : Script) (layer : Layer Kept)
     (began : List Kept) (is : IsPlayable machine script layer began) (j : ℕ)
@@ -52,10 +51,6 @@ module _ {Kept : Type 0} (machine : Machine) (script : Script) (layer : Layer Ke
   abbrev scenes : List (Scene Kept)
   scenes = era_scenes machine script layer began j
 
-  pub same_faulty : (t : ℕ) → first ≤ t → t < end_of_era script j → faulty_at script t ≡ faulty
-  same_faulty t low high =
-      ap (faulty_of_era script) (in_era script is.read.whole.formed.rising j t among low high)
-
   round_is : (t : ℕ) → first ≤ t → t + 1 < end_of_era script j
       → LayerRound counter (IsState machine) layer faulty t (at t)
       (lies_at script t (at t).states) (at (t + 1))
@@ -64,33 +59,23 @@ module _ {Kept : Type 0} (machine : Machine) (script : Script) (layer : Layer Ke
       record {
         table = table_is machine script layer began is t;
         steps = λ v lt correct. steps_as counter script layer began is.enough is.read.right.nodes t
-            v faulty (same_faulty t low (omega arith)) lt (none_hit script (t + 1) v none);
+            v faulty (same_faulty script is.read.whole j among t low (omega arith)) lt
+            (none_hit script (t + 1) v none);
       }
 
   next_is : (t : ℕ) → first ≤ t → t + 1 < end_of_era script j
       → IsNextScene counter (IsState machine) layer faulty t (at t) (at (t + 1))
   next_is t low high = record { lies = lies_at script t (at t).states; round = round_is t low high }
 
-  pub long : length scenes ≡ count
-  long = length-map-range_with_len (λ i. at (first + i)) 0 count
-
-  scene_is : (i : ℕ) → i < count → scene scenes i ≡ at (first + i)
-  scene_is i lt = get_or-map-range_with_len (λ i. at (first + i)) 0 count i i
-      (record { states = []; kept = [] }) lt (omega arith)
-
   pub layer_run : LayerRun counter (IsState machine) layer faulty first scenes
   layer_run = record {
-    some = let some = era_some script is.read.whole j among in omega (arith, some, long);
+    some = let some = era_some script is.read.whole j among in
+        omega (arith, some, era_long script at j);
     configurations = each (λ s. IsLayerConfiguration counter (IsState machine) layer s.states)
         (λ i. at (first + i)) count
         (λ i lt. configuration_is machine script layer began is (first + i));
-    rounds = λ i lt.
-        let here = scene_is i (omega (arith, lt, long)) in
-        let there = scene_is (i + 1) (omega (arith, lt, long)) in
-        let next : first + i + 1 ≡ first + (i + 1) = omega arith in
-        rw (here, there) (subst (λ t. IsNextScene counter (IsState machine) layer faulty
-        (first + i) (at (first + i)) (at t)) next
-        (next_is (first + i) (omega arith) (omega (arith, lt, long))));
+    rounds = neighbours script at j (IsNextScene counter (IsState machine) layer faulty)
+        (record { states = []; kept = [] }) next_is;
   }
 
   pub bare_run : Run machine faulty (without_layer counter scenes)
@@ -100,7 +85,8 @@ module _ {Kept : Type 0} (machine : Machine) (script : Script) (layer : Layer Ke
       layer_run)
 
   pub bare_long : length (without_layer counter scenes) ≡ count
-  bare_long = length-map scenes (λ (s : Scene Kept). map (cut counter.depth) s.states) ∙ long
+  bare_long = length-map scenes (λ (s : Scene Kept). map (cut counter.depth) s.states)
+      ∙ era_long script at j
 
   -- its configurations are those that are played, cut
   pub bare_at : (t : ℕ) → first ≤ t → t < end_of_era script j
@@ -110,15 +96,13 @@ module _ {Kept : Type 0} (machine : Machine) (script : Script) (layer : Layer Ke
       let inside : t - first < count = omega arith in
       let back : first + (t - first) ≡ t = omega arith in
       cut_at counter (IsState machine) layer faulty first scenes layer_run (t - first)
-      (omega (arith, inside, long))
+      (omega (arith, inside, era_long script at j))
       ∙ ap (λ (s : Scene Kept). map (cut machine.depth) s.states)
-      (scene_is (t - first) inside ∙ ap at back)
+      (place_is script at j (t - first) (record { states = []; kept = [] }) inside ∙ ap at back)
 
   pub borne_in : IsBorne machine faulty
   borne_in =
-      let few : IsTolerated machine.nodes machine.faults faulty =
-      All-get_or (IsTolerated machine.nodes machine.faults) (faulty_sets script) j []
-      (omega (arith, among, length-map script.eras (λ (era : Era). era.faulty)))
+      let few = of_each_era (IsTolerated machine.nodes machine.faults) script j among
       is.read.right.borne in
       record { rising = few.rising; ids = few.ids; few = few.few }
 
@@ -129,7 +113,8 @@ module _ {Kept : Type 0} (machine : Machine) (script : Script) (layer : Layer Ke
     output = λ t. counts.output (t - first);
     shows = λ t lo hi v lt correct.
         let low : first ≤ t = omega arith in
-        let bad = subst (λ (f : List ℕ). is_in f v ≡ false) (same_faulty t low hi) correct in
+        let bad = subst (λ (f : List ℕ). is_in f v ≡ false)
+        (same_faulty script is.read.whole j among t low hi) correct in
         let shown = counts.shows (t - first) (omega arith) (omega (arith, bare_long)) v lt bad in
         sym (ap (λ (config : List State). machine.shows v (state_of config v)) (bare_at t low hi)
         ∙ ap (machine.shows v) (state_of-cut machine.depth (at t).states v)

@@ -1,4 +1,4 @@
--- A node's step: the machine's, and behind it that of a layer that hears what the node hears.
+-- A node's step: the machine's, and after it that of a layer that hears what the node hears.
 use Rattle.std.proofs.Common.{◌≡◌, ℕ, ◌<◌, List, length, map, sym, ap, ◌∙◌, subst, arith}
 use Rattle.std.proofs.lemmas.List.{length-map}
 use Rattle.sync_types.specs.States.{State}
@@ -16,11 +16,11 @@ use Rattle.adversary_script.specs.Rounds.{heard_at}
 use Rattle.adversary_script.proofs.LiesInRange.{depth_of_node}
 use Rattle.machine_runner.proofs.HeardAt.{heard_long, heard_range}
 use Rattle.machine_runner.proofs.Places.{all_places}
-use Rattle.layer_runs.specs.Scenes.{layer_step, new_state}
+use Rattle.layer_laws.specs.PlayedScenes.{layer_step, new_state}
 use Rattle.layer_runner.specs.Counters.{machine_counter}
 use Rattle.layer_runner.specs.ReadOver.{IsReadWithLayer}
 use Rattle.layer_runner.proofs.CutStates.{state_of-cut}
-use Rattle.layer_runner.proofs.Layered.{layered_written}
+use Rattle.layer_laws.proofs.Layered.{layered_written}
 use Rattle.layer_runner.proofs.ReadOver.{front_is, values_are, joined}
 
 -- a node of a script steps from a configuration of states in range
@@ -87,7 +87,7 @@ module _ {Kept : Type 0} (machine : Machine) (layer : Layer Kept) (script : Scri
       (sound.shown v own (cut machine.depth (state_of heard v))
       (front_is machine layer script sound is v own (state_of heard v) (range_at v own)))
 
-  -- what the layer may hear, where it has registers
+  -- what the layer may hear, if it has registers
   pub may_hear : 0 < layer.extra → MayHear layer v output heard
   may_hear some =
       let same = is.over some in
@@ -131,7 +131,7 @@ module _ {Kept : Type 0} (machine : Machine) (layer : Layer Kept) (script : Scri
   new_in_range = joined machine layer script sound is v own (machine.step v heard) _
       (sound.next v own heard) new_are.size new_are.range
 
-  -- the layer's registers, written behind the machine's step, make the new state
+  -- the layer's registers, written after the machine's step, make the new state
   pub out_is : (out : State) → length out.registers ≡ script.shape.depth
       → layered layer (layer_step counter layer kept v heard).registers
       (written machine.depth (machine.step v heard) out)

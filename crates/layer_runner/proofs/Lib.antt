@@ -2,14 +2,11 @@ pub mod CutStates
 pub mod EraScenes
 pub mod Keeping
 pub mod LaidFronts
-pub mod Layered
 pub mod LayerSteps
 pub mod MachinesSettle
 pub mod ReadOver
 pub mod Rooms
 pub mod SceneLocks
 pub mod SceneStates
-pub mod SceneSteps
 pub mod StatesFit
-pub mod Stepped
 pub mod TurnSteps

@@ -83,7 +83,7 @@ readers_fit layer machine shape script fits for whole over = record {
   over = over;
 }
 
--- the faulty nodes of each era are borne by the machine's counter
+-- the faulty nodes of each era are tolerated by the machine's counter
 pub borne_all : {Kept : Type 0} (machine : Machine) (layer : Layer Kept) (script : Script)
     → IsReadWithLayer machine layer script
     → All (Bears (machine_counter machine)) (faulty_sets script)

@@ -1,5 +1,5 @@
 -- What a script that was read for a machine with a layer above says of the states of its nodes: the
--- machine's own registers, and those of the layer behind.
+-- machine's own registers, and after them those of the layer.
 use Rattle.std.proofs.Common.{◌≡◌, ℕ, ◌+◌, ◌-◌, ◌<◌, ◌≤◌, inl, inr, not, List, ◌++◌, length, take}
 use Rattle.std.proofs.Common.{replicate, get_or, sym, ap, ap₂, ◌∙◌, subst, arith, length-append}
 use Rattle.std.specs.Prelude.{IfSome, slice_index}
@@ -105,7 +105,8 @@ module _ {Kept : Type 0} (machine : Machine) (layer : Layer Kept) (script : Scri
         subst (λ (d : ℕ). IfSome (register_at (d + i) s).a (λ a. a < layer.values)) (sym same)
         (finite_below layer.values (register_at (depth + i) s) (some_values i lt) at)
 
-    -- and a state of the machine's node with registers of the layer behind is one of the node
+    -- and a state of the machine's node with registers of the layer after its own is one of the
+    -- node
     module _ (s : State) (registers : List Reg) (front : IsState machine v s)
         (extra : length registers ≡ layer.extra) (below : AreBelow layer.values registers) where
       long : length s.registers ≡ depth

@@ -8,19 +8,19 @@ use Rattle.adversary_script.specs.Scripts.{Script}
 use Rattle.machine_runner.specs.Hearing.{HasRoom, AreHonest}
 use Rattle.layer_runner.specs.Fronts.{HasFronts}
 use Rattle.layer_runner.specs.Rooms.{IsLaid}
-use Rattle.layer_runner.specs.declared.stepping.LayerRoom.{LayerRoom}
+use Rattle.layer_runner.specs.declared.stepping.LayerBuffers.{LayerBuffers}
 use Rattle.layer_runner.proofs.CutStates.{state_of-cut}
 
--- where states are honest, so are their fronts
+-- if states are honest, so are their fronts
 pub fronts_honest : (script : Script) (t d : ℕ) (config heard : List State)
     → AreHonest script t config heard
     → AreHonest script t (map (cut d) config) (map (cut d) heard)
 fronts_honest script t d config heard honest u lt correct =
     state_of-cut d heard u ∙ ap (cut d) (honest u lt correct) ∙ sym (state_of-cut d config u)
 
--- the room behind a step of a node has what it had
+-- the room after a step of a node has what it had
 pub laid_behind : (machine : Machine) (script : Script) (t : ℕ) (config : List State)
-    (old new : LayerRoom) → IsLaid machine script t config old
+    (old new : LayerBuffers) → IsLaid machine script t config old
     → new.below.noise ≡ old.below.noise → new.below.heard.items ≡ old.below.heard.items
     → IsFor script.nodes new.below.work → length new.below.out.registers ≡ script.shape.depth
     → new.fronts.items ≡ old.fronts.items → length new.front.registers ≡ machine.depth

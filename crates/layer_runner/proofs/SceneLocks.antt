@@ -1,5 +1,4 @@
--- What is locked of the scenes of an era is locked without the layer's registers, and the other
--- way.
+-- What is locked of the scenes of an era is locked without the layer's registers, and conversely.
 use Rattle.std.proofs.Common.{◌≡◌, inl, inr, ℕ, ◌+◌, ◌-◌, ◌<◌, ◌≤◌}
 use Rattle.std.proofs.Common.{List, [], length, map, Option, Some, None, refl, sym, ap}
 use Rattle.std.proofs.Common.{◌∙◌, subst, arith}
@@ -25,20 +24,22 @@ use Rattle.layer_laws.specs.CounterPlayed.{Telling, era_from, scene_after}
 use Rattle.layer_laws.specs.Scenes.{Scene}
 use Rattle.layer_laws.proofs.CounterEras.{eras_are_runs_over}
 use Rattle.layer_laws.proofs.CounterSlots.{runs_without_layer_over}
-use Rattle.machine_runner.specs.Locks.{era_locked}
-use Rattle.machine_runner.proofs.FirstLocked.{first_locked_below, passes}
+use Rattle.machine_runner.specs.Locks.{is_locked, era_locked}
+use Rattle.machine_runner.proofs.Eras.{same_faulty}
+use Rattle.machine_runner.proofs.FirstLocked.{passes}
+use Rattle.machine_runner.proofs.FirstPassing.{first_locked_below}
 use Rattle.machine_runner.proofs.Firsts.{in_era}
+use Rattle.machine_runner.proofs.Locked.{lock_test_is_exact}
 use Rattle.layer_runner.specs.Counters.{machine_counter}
 use Rattle.layer_runner.specs.Laws.{IsPlayable, EraCountsFrom, EraStaysLocked, ErasLock}
 use Rattle.layer_runner.specs.Laws.{ErasStayLocked}
 use Rattle.layer_runner.specs.Laws.{played_states, era_scenes}
 use Rattle.layer_runner.proofs.CutStates.{state_of-cut}
 use Rattle.layer_runner.proofs.EraScenes.{bare_run, bare_long, bare_at, borne_in, counts_from}
-use Rattle.layer_runner.proofs.EraScenes.{same_faulty}
 use Rattle.layer_runner.proofs.MachinesSettle.{machines_settle, run_of}
 use Rattle.layer_runner.proofs.SceneStates.{configuration_is}
 
--- a register behind the front of a state is zero there, and so no locked one
+-- a register after the front of a state is zero there, and so no locked one
 behind_front : (d register a : ℕ) (s : State) → length s.registers ≡ d
     → register_at register s ≡ locked_at a → register < d
 behind_front d register a s size is = elim (cases_lt register d) [
@@ -125,7 +126,7 @@ module _ (d n : ℕ) (faulty : List ℕ) (config : List State) where
   front_register register v lt = ap (register_at register) (state_of-cut d config v)
       ∙ get_or-take d (state_of config v).registers register zero_register lt
 
-  -- where that register is one of the front, the front of what is locked is locked
+  -- if that register is one of the front, the front of what is locked is locked
   pub whole_locked : (lock : Option ℕ) → ((register : ℕ) → lock ≡ Some register → register < d)
       → LockedBy lock n faulty (map (cut d) config) → LockedBy lock n faulty config
   whole_locked None within h = tt
@@ -171,7 +172,7 @@ module _ {Kept : Type 0} (machine : Machine) (script : Script) (layer : Layer Ke
   within : (register : ℕ) → machine.lock ≡ Some register → register < machine.depth
   within = lock_within machine is.sound (map (cut machine.depth) (states 0)) begins
 
-  -- what is locked of the run without the layer is locked as it is played, and the other way
+  -- what is locked of the run without the layer is locked as it is played, and conversely
   to_played : (t : ℕ) → first ≤ t → t < end_of_era script j
       → IsLocked machine faulty (configuration bare (t - first))
       → IsLocked machine faulty (states t)
@@ -201,7 +202,7 @@ module _ {Kept : Type 0} (machine : Machine) (script : Script) (layer : Layer Ke
       → EraStaysLocked machine script layer began j t
   stays t low high locked =
       let long = bare_long machine script layer began is j among in
-      let same = same_faulty machine script layer began is j among in
+      let same = same_faulty script is.read.whole j among in
       let back : first + (t - first) ≡ t = omega arith in
       let after = is.sound.stays faulty bare (borne_in machine script layer began is j among)
       (bare_run machine script layer began is j among) (t - first) (omega (arith, high, long))
@@ -221,8 +222,8 @@ eras_lock layer machine script began is j among high at reached within_rounds =
     let t : ℕ = first_of_era script j + machine.bound in
     first_locked_below (era_locked machine script (played_states machine script layer began) j) t at
     reached
-    (passes machine script (played_states machine script layer began) is.read.whole j at among
-    within_rounds t
+    (passes (is_locked machine) (IsLocked machine) (lock_test_is_exact machine) script
+    (played_states machine script layer began) is.read.whole j at among within_rounds t
     (in_era script is.read.whole.formed.rising j t among (omega arith) high)
     (at_the_bound machine script layer began is j among high))
 

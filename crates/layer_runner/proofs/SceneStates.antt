@@ -17,7 +17,7 @@ use Rattle.adversary_script.specs.Rounds.{lies_at}
 use Rattle.adversary_script.proofs.LiesInRange.{starts_in_range, lies_in_range}
 use Rattle.layer_laws.specs.CounterLayers.{IsLayerState, IsLayerConfiguration, IsLayerTold}
 use Rattle.layer_laws.specs.CounterLayers.{IsLayerTable}
-use Rattle.layer_runs.specs.Scenes.{begun_kept, state_behind}
+use Rattle.layer_laws.specs.PlayedScenes.{begun_kept, state_behind}
 use Rattle.machine_runner.proofs.Hits.{put_has, hit_has}
 use Rattle.machine_runner.proofs.Places.{each, placed}
 use Rattle.layer_runner.specs.Counters.{machine_counter}
@@ -30,7 +30,8 @@ module _ {Kept : Type 0} (machine : Machine) (script : Script) (layer : Layer Ke
   abbrev counter : Meaning
   counter = machine_counter machine
 
-  -- a state of a node's fields is one of the machine's node with the layer's registers behind
+  -- a state of a node's fields is one of the machine's node with the layer's registers after its
+  -- own
   pub layer_state : (v : ℕ) → v < script.nodes → (s : State)
       → InRange (fields_at script.shape v) s
       → IsLayerState counter (IsState machine) layer v s

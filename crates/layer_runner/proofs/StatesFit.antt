@@ -1,4 +1,5 @@
--- The states of a script's node are those of the machine's node with the layer's registers behind.
+-- The states of a script's node are those of the machine's node with the layer's registers after
+-- its own.
 use Rattle.std.proofs.Common.{◌≡◌, ℕ, ◌+◌, ◌<◌, List, length, drop, sym, ◌∙◌}
 use Rattle.std.proofs.Common.{subst, arith}
 use Rattle.std.specs.Prelude.{IfSome}
@@ -33,7 +34,7 @@ module _ {Kept : Type 0} (machine : Machine) (layer : Layer Kept) (script : Scri
     values = values_are machine layer script sound is v node s range;
   }
 
-  -- the registers behind the machine's own
+  -- the registers after the machine's own
   abbrev behind : List Reg
   behind = drop machine.depth s.registers
 

@@ -1,5 +1,5 @@
 -- The lists in which the fronts of states are laid: the registers of the machine, without those of
--- the layer behind.
+-- the layer after them.
 use Rattle.std.specs.Prelude.{◌≡◌, ℕ, List, length, All}
 use Rattle.sync_types.specs.States.{State}
 

@@ -9,11 +9,11 @@ use Rattle.adversary_script.specs.Scripts.{Script}
 use Rattle.adversary_script.specs.Eras.{era_of}
 use Rattle.layer_runner.specs.ReadOver.{IsReadWithLayer}
 use Rattle.layer_runner.specs.Rooms.{IsReady}
-use Rattle.layer_runner.specs.declared.stepping.LayerRoom.{LayerRoom}
+use Rattle.layer_runner.specs.declared.stepping.LayerBuffers.{LayerBuffers}
 
 -- Its room was made for the machine and the script, and the fronts of its configuration are laid.
 pub record IsKept {Kept : Type 0} (machine : Machine) (layer : Layer Kept) (script : Script)
-    (room : LayerRoom) (states : Pack) (locks : List (Option ℕ)) (at era : ℕ) : Type 0 where
+    (room : LayerBuffers) (states : Pack) (locks : List (Option ℕ)) (at era : ℕ) : Type 0 where
   pub sound : IsSound machine
   pub read : IsReadWithLayer machine layer script
   pub ready : IsReady machine script room

@@ -1,24 +1,25 @@
 -- What holds of the scenes that are played of a script that was read for a sound machine with a
 -- layer above.
-use Rattle.std.specs.Prelude.{◌≡◌, ℕ, ◌+◌, ◌-◌, ◌%◌, ◌<◌, ◌≤◌, ◌↔◌, List, length, map}
-use Rattle.std.specs.List.{range_with_len}
+use Rattle.std.specs.Prelude.{◌≡◌, ℕ, ◌+◌, ◌<◌, ◌≤◌, ◌↔◌, List, length}
 use Rattle.sync_types.specs.States.{State}
 use Rattle.state_codec.specs.Shapes.{Shape, fields_at, shape_nodes}
 use Rattle.state_codec.specs.Ranges.{InRange}
-use Rattle.counter_core.specs.Overlays.{Layer, StandsOver, KeepsRange}
+use Rattle.counter_core.specs.Overlays.{Layer, LayerFits, KeepsRange}
 use Rattle.machines.specs.Machines.{Machine, IsState, Run, AllShow, IsLocked}
 use Rattle.machines.specs.Laws.{IsSound}
 use Rattle.adversary_script.specs.Scripts.{Script, IsScript}
 use Rattle.adversary_script.specs.Eras.{first_of_era, end_of_era, faulty_of_era, faulty_at}
 use Rattle.adversary_script.specs.Rounds.{lies_at}
 use Rattle.adversary_script.specs.ScriptPart.{IsScriptFor}
+use Rattle.machine_runner.specs.Eras as any
+use Rattle.machine_runner.specs.Eras.{of_era}
 use Rattle.machine_runner.specs.Laws.{IsUpTo}
 use Rattle.machine_runner.specs.Locks.{first_locked, era_locked}
 use Rattle.layer_laws.specs.Counters.{IsSettling}
 use Rattle.layer_laws.specs.CounterLayers.{IsLayerState, LayerRun, LayerRound, without_layer}
 use Rattle.layer_laws.specs.CounterPlayed.{IsKeptFor}
 use Rattle.layer_laws.specs.Scenes.{Scene}
-use Rattle.layer_runs.specs.Scenes.{scene_at}
+use Rattle.layer_laws.specs.PlayedScenes.{scene_at}
 use Rattle.layer_runner.specs.Counters.{machine_counter}
 use Rattle.layer_runner.specs.ReadOver.{IsShapeOver, IsReadWithLayer}
 
@@ -28,10 +29,10 @@ abbrev pub ReadersFit : {Kept : Type 0} → Layer Kept → Type 0
 ReadersFit layer = (machine : Machine) (shape : Shape) (script : Script)
     → IsShapeOver machine layer shape
     → IsScriptFor (shape_nodes shape) machine.faults shape script → IsScript script
-    → StandsOver layer (machine_counter machine) → IsReadWithLayer machine layer script
+    → LayerFits layer (machine_counter machine) → IsReadWithLayer machine layer script
 
 -- A state of the fields of a script's node is one of the machine's node with the layer's registers
--- behind, and the other way.
+-- after its own, and conversely.
 abbrev pub StatesFit : {Kept : Type 0} → Layer Kept → Type 0
 StatesFit layer = (machine : Machine) (script : Script) → IsSound machine
     → IsReadWithLayer machine layer script → (v : ℕ) → v < machine.nodes → (state : State)
@@ -45,7 +46,7 @@ MachinesSettle = (machine : Machine) → IsSound machine
 
 module _ {Kept : Type 0} (machine : Machine) (script : Script) (layer : Layer Kept)
     (began : List Kept) where
-  -- scene t of what is played, where the nodes began with these things kept
+  -- scene t of what is played, if the nodes began with these things kept
   abbrev pub played_scene : (t : ℕ) → Scene Kept
   played_scene t = scene_at (machine_counter machine) script layer began t
 
@@ -55,9 +56,7 @@ module _ {Kept : Type 0} (machine : Machine) (script : Script) (layer : Layer Ke
 
   -- the scenes of era j
   abbrev pub era_scenes : (j : ℕ) → List (Scene Kept)
-  era_scenes j =
-      map (λ i. played_scene (first_of_era script j + i))
-      (range_with_len 0 (end_of_era script j - first_of_era script j))
+  era_scenes j = of_era script played_scene j
 
   -- What is played of era j is a run with the layer, with that era's faulty nodes and the era's
   -- first round as its first, and each of its rounds has what these tell as its table of lies.
@@ -73,18 +72,15 @@ module _ {Kept : Type 0} (machine : Machine) (script : Script) (layer : Layer Ke
 
   -- From that configuration to the end of era j all nodes that are correct in it show one number,
   -- which grows by one modulo C.
-  pub record EraCountsFrom (j from : ℕ) : Type 0 where
-    pub output : ℕ → ℕ
-    pub shows : (t : ℕ) → from ≤ t → t < end_of_era script j
-        → AllShow machine (faulty_at script t) (played_states t) (output t)
-    pub grows : (t : ℕ) → from ≤ t → t + 1 < end_of_era script j
-        → output (t + 1) ≡ (output t + 1) % machine.modulus
+  abbrev pub EraCountsFrom : (j from : ℕ) → Type 0
+  EraCountsFrom j from =
+      any.EraCounts (AllShow machine) machine.modulus script played_states j from
 
   -- from that configuration to the end of era j each one is locked, and they count
-  pub record EraStaysLocked (j from : ℕ) : Type 0 where
-    pub locked : (t : ℕ) → from ≤ t → t < end_of_era script j
-        → IsLocked machine (faulty_at script t) (played_states t)
-    pub counts : EraCountsFrom j from
+  abbrev pub EraStaysLocked : (j from : ℕ) → Type 0
+  EraStaysLocked j from =
+      any.EraStaysLocked (AllShow machine) machine.modulus script played_states j from
+      (IsLocked machine)
 
 -- A sound machine, a layer whose step keeps values in range, and a script that was read for both;
 -- something is kept for each node at first.
@@ -107,8 +103,8 @@ ErasCount layer = (machine : Machine) (script : Script) (began : List _)
     → IsPlayable machine script layer began → (j : ℕ) → j ≤ length script.eras
     → EraCountsFrom machine script layer began j (first_of_era script j + machine.bound)
 
--- Where an era reaches the bound, and the play too, it has a first locked configuration, at the
--- bound or before.
+-- If an era reaches the bound, and the play too, it has a first locked configuration, at the bound
+-- or before.
 abbrev pub ErasLock : {Kept : Type 0} → Layer Kept → Type 0
 ErasLock layer = (machine : Machine) (script : Script) (began : List _)
     → IsPlayable machine script layer began → (j : ℕ) → j ≤ length script.eras

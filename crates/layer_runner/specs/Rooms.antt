@@ -7,17 +7,17 @@ use Rattle.adversary_script.specs.Scripts.{Script}
 use Rattle.machine_runner.specs.Hearing.{AreHonest}
 use Rattle.machine_runner.specs.Rooms as plain
 use Rattle.layer_runner.specs.Fronts.{HasFronts}
-use Rattle.layer_runner.specs.declared.stepping.LayerRoom.{LayerRoom}
+use Rattle.layer_runner.specs.declared.stepping.LayerBuffers.{LayerBuffers}
 
 -- the room was made for the machine and the script
-pub record IsReady (machine : Machine) (script : Script) (room : LayerRoom) : Type 0 where
+pub record IsReady (machine : Machine) (script : Script) (room : LayerBuffers) : Type 0 where
   pub below : plain.IsReady script room.below
   pub fronts : HasFronts script.nodes machine.depth room.fronts.items
   pub front : length room.front.registers ≡ machine.depth
 
 -- In round t the states of the correct nodes and their fronts stand in their places.
 pub record IsLaid (machine : Machine) (script : Script) (t : ℕ) (config : List State)
-    (room : LayerRoom) : Type 0 where
+    (room : LayerBuffers) : Type 0 where
   pub ready : IsReady machine script room
   pub states : AreHonest script t config room.below.heard.items
   pub fronts : AreHonest script t (map (cut machine.depth) config) room.fronts.items

@@ -5,7 +5,7 @@ use Rattle.counter_core.specs.Overlays.{Layer}
 use Rattle.machines.specs.Machines.{Machine}
 use Rattle.adversary_script.specs.Scripts.{Script}
 use Rattle.machine_runner.specs.Locks.{is_locked}
-use Rattle.layer_runs.specs.Positions.{Position}
+use Rattle.layer_laws.specs.Positions.{Position}
 use Rattle.layer_runner.specs.Counters.{machine_counter}
 
 -- A runner: its machine, script and layer, and configuration `at`; of each era the first

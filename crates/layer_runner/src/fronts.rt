@@ -7,7 +7,7 @@ ghost use Rattle.layer_runner.specs.Fronts.{HasFronts};
 use state_codec::Packed;
 use sync_types::{FaultSet, NodeState};
 
-/// Takes the number and the first `count` registers of a state, and leaves the registers behind.
+/// Takes the number and the first `count` registers of a state, and keeps the further ones.
 pub fn copy_front(count: usize, state: &NodeState, out: &mut NodeState)
     requires state { count ≤ length state.now.registers }
     requires out { count ≤ length out.old.registers }
@@ -26,7 +26,7 @@ pub fn lay_fronts(count: usize, states: &Packed, fronts: &mut [NodeState])
     ensures fronts { fronts.new ≡ map (cut count) states.now.current }
     ensures room { HasFronts (length states.now.current) count fronts.new }
 {
-    states.tell();
+    states.facts();
     for v in 0..states.nodes() {
         copy_front(count, states.state(v), &mut fronts[v as usize]);
     }
@@ -42,7 +42,7 @@ pub fn lay_lies(faulty: &FaultSet, count: usize, heard: &[NodeState], fronts: &m
         → state_of fronts.old u ≡ cut count (state_of heard.now u) }
     ensures { fronts.new ≡ map (cut count) heard.now }
 {
-    faulty.tell();
+    faulty.facts();
     for i in 0..faulty.len() {
         let u = faulty.at(i) as usize;
         copy_front(count, &heard[u], &mut fronts[u]);

@@ -8,14 +8,14 @@ ghost use Rattle.layer_runner.specs.Laws.{ErasCount, ErasLock, ErasStayLocked};
 use counter_core::Overlay;
 
 /// A script that the reader of scripts read for the nodes and faults of a machine, and for the
-/// shape of its states with a layer's registers behind, is read for both where the layer stands over
-/// the machine.
+/// shape of its states with a layer's registers after them, is read for both if the layer stands
+/// over the machine.
 pub fn readers_fit<O: Overlay>()
     ensures { (layer : Layer O.Kept) → ReadersFit layer }
 {}
 
 /// The states of a node of a script that was read for a machine with a layer above are those of the
-/// machine's node with the layer's registers behind, their finite values below the layer's.
+/// machine's node with the layer's registers after its own, their finite values below the layer's.
 pub fn states_fit<O: Overlay>()
     ensures { (layer : Layer O.Kept) → StatesFit layer }
 {}
@@ -38,8 +38,8 @@ pub fn eras_count<O: Overlay>()
     ensures { (layer : Layer O.Kept) → ErasCount layer }
 {}
 
-/// Where an era goes on to the machine's bound, it has a first locked configuration, at the bound
-/// or before.
+/// If an era goes on to the machine's bound, it has a first locked configuration, at the bound or
+/// before.
 pub fn eras_lock<O: Overlay>()
     ensures { (layer : Layer O.Kept) → ErasLock layer }
 {}

@@ -1,8 +1,8 @@
 //! Plays a script on any machine with a layer above, round by round.
 //!
-//! States have the machine's registers, and behind them the layer's. A machine steps from states
-//! of its own registers alone, so a round keeps, beside what a node hears, the fronts of that. A
-//! [`LayerRunner`] is a [`Play`](layer_runs::Play): a round takes no memory and cannot fail.
+//! States have the machine's registers, and after them the layer's. A machine steps from states of
+//! its own registers alone, so a round keeps, beside what a node hears, the fronts of that. A
+//! [`LayerRunner`] is a [`Play`](layer_laws::Play): a round takes no memory and cannot fail.
 #![tactic(auto)]
 
 mod fronts;

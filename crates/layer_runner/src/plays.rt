@@ -3,8 +3,8 @@ use crate::runners::LayerRunner;
 use crate::stepping::step_all;
 use adversary_script::Script;
 use counter_core::Overlay;
-use layer_runs::Play;
-use machine_runner::{Round, beginning_in, is_locked, locked_so_far};
+use layer_laws::Play;
+use machine_runner::{Round, beginning_in, is_locked, note_lock};
 use machines::Machine;
 
 impl<'a, M: Machine, O: Overlay> Play<O> for LayerRunner<'a, M, O> {
@@ -12,8 +12,8 @@ impl<'a, M: Machine, O: Overlay> Play<O> for LayerRunner<'a, M, O> {
 
     ghost position = { λ r. position_of M.machine O.layer O.kept r };
 
-    fn tell(&self) {
-        self.machine.tell();
+    fn facts(&self) {
+        self.machine.facts();
     }
 
     fn at(&self) -> u64 {
@@ -33,8 +33,8 @@ impl<'a, M: Machine, O: Overlay> Play<O> for LayerRunner<'a, M, O> {
     }
 
     fn output(&self, v: u32) -> u64 {
-        self.machine.tell();
-        self.states.tell();
+        self.machine.facts();
+        self.states.facts();
         self.machine.output(v, &self.room.fronts[v as usize])
     }
 
@@ -67,6 +67,6 @@ impl<'a, M: Machine, O: Overlay> Play<O> for LayerRunner<'a, M, O> {
         self.at += 1;
         self.era = era;
         let locked = is_locked(self.machine, self.script.era_faulty(era), &self.states);
-        self.locks[era] = locked_so_far(self.locks[era], locked, self.at);
+        note_lock(era, locked, self.at, &mut self.locks);
     }
 }

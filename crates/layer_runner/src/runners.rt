@@ -4,11 +4,11 @@ ghost use Rattle.machine_runner.specs.Rooms as plain;
 ghost use Rattle.layer_runner.specs.Rooms.{IsReady};
 
 use crate::fronts::lay_fronts;
-use crate::stepping::LayerRoom;
+use crate::stepping::LayerBuffers;
 use adversary_script::Script;
 use counter_core::Overlay;
 use layer_laws::AnyCounter;
-use machine_runner::{first_locks, room_for, start_all};
+use machine_runner::{first_locks, is_locked, room_for, start_all};
 use machines::Machine;
 use state_codec::{Packed, StateShape};
 use std::alloc::Global;
@@ -20,7 +20,7 @@ pub struct LayerRunner<'a, M: Machine, O: Overlay> {
     pub(crate) machine: &'a M,
     pub(crate) script: Script,
     pub(crate) overlay: O,
-    pub(crate) room: LayerRoom,
+    pub(crate) room: LayerBuffers,
     pub(crate) states: Packed,
     pub(crate) at: u64,
     // The era of `at`.
@@ -29,7 +29,7 @@ pub struct LayerRunner<'a, M: Machine, O: Overlay> {
     pub(crate) locks: Vec<Option<u64>>,
 }
 
-// Written out, so that what lets go of one calls this, and no more.
+// Written out, so that code that drops one has a single call.
 impl<'a, M: Machine, O: Overlay> Drop for LayerRunner<'a, M, O> {
     fn drop(self) {
         let LayerRunner {
@@ -75,12 +75,12 @@ fn layer_room<M: Machine>(
     machine: &M,
     script: &Script,
     shape: &StateShape,
-) -> Result<LayerRoom, NoMemory>
+) -> Result<LayerBuffers, NoMemory>
     requires { shape.now ≡ script.now.shape }
     ensures { IfOk result (IsReady (M.machine machine.now) script.now) }
 {
     let depth = machine.depth();
-    Ok(LayerRoom {
+    Ok(LayerBuffers {
         below: room_for(alloc, script, shape)?,
         fronts: NodeState::zeros(alloc, script.faulty().nodes(), depth)?,
         front: NodeState::zero(alloc, depth)?,
@@ -90,7 +90,7 @@ fn layer_room<M: Machine>(
 impl<'a, M: Machine, O: Overlay> LayerRunner<'a, M, O> {
     ghost use Rattle.std.specs.Prelude.{◌≡◌, IfOk};
     ghost use Rattle.machine_runner.specs.Locks.{is_locked};
-    ghost use Rattle.layer_runs.specs.Positions.{begun};
+    ghost use Rattle.layer_laws.specs.Positions.{begun};
     ghost use Rattle.layer_runner.specs.Counters.{machine_counter};
     ghost use Rattle.layer_runner.specs.ReadOver.{IsReadWithLayer};
     ghost use Rattle.layer_runner.specs.Runners.{position_of};
@@ -111,14 +111,20 @@ impl<'a, M: Machine, O: Overlay> LayerRunner<'a, M, O> {
             ≡ begun (machine_counter (M.machine machine.now)) (is_locked (M.machine machine.now))
             script (O.layer overlay) (O.kept overlay)) }
     {
-        shape.tell();
-        machine.tell();
+        shape.facts();
+        machine.facts();
         let _rounds = script.rounds();
         let mut room = layer_room(alloc, machine, &script, &shape)?;
         let mut states = Packed::new(alloc, shape, script.faulty().nodes())?;
-        start_all(&script, &mut room.below, &mut states);
+        start_all(
+            &script,
+            &mut room.below.noise,
+            &mut room.below.out,
+            &mut states,
+        );
         lay_fronts(machine.depth(), &states, &mut room.fronts);
-        let locks = first_locks(alloc, machine, &script, &states)?;
+        let locked = is_locked(machine, script.faulty(), &states);
+        let locks = first_locks(alloc, &script, locked)?;
         Ok(LayerRunner {
             machine,
             script,

@@ -9,23 +9,23 @@ ghost use Rattle.counter_core.specs.Working.{IsFor, IsAsRoomy};
 ghost use Rattle.machines.specs.Machines.{IsConfiguration};
 ghost use Rattle.adversary_script.specs.Rounds.{heard_at};
 ghost use Rattle.machine_runner.specs.Rooms as plain;
-ghost use Rattle.layer_runs.specs.Scenes.{layer_step, state_behind, kept_at};
+ghost use Rattle.layer_laws.specs.PlayedScenes.{layer_step, state_behind, kept_at};
 ghost use Rattle.layer_runner.specs.Counters.{machine_counter};
 ghost use Rattle.layer_runner.specs.ReadOver.{IsReadWithLayer};
 ghost use Rattle.layer_runner.specs.Rooms.{IsReady, IsLaid};
 
 use crate::fronts::{copy_front, lay_lies};
 use counter_core::{Heard, Overlay};
-use machine_runner::{Receiver, Room, Round, lay};
+use machine_runner::{Receiver, Round, RoundBuffers, lay};
 use machines::Machine;
 use state_codec::Packed;
 use sync_types::NodeState;
 
 /// What rounds need beside two configurations.
 #[derive(Drop)]
-pub struct LayerRoom {
+pub struct LayerBuffers {
     /// What rounds without a layer need.
-    pub below: Room,
+    pub below: RoundBuffers,
     /// The fronts of what a node hears, by place.
     pub fronts: Vec<NodeState>,
     /// The front of a node's new state.
@@ -34,7 +34,7 @@ pub struct LayerRoom {
 
 /// A node that steps in a round, from a configuration of the script's nodes.
 #[derive(Clone, Copy, Drop)]
-pub struct Turn<'a> {
+pub struct NodeStep<'a> {
     /// The round.
     pub round: &'a Round<'a>,
     /// The configuration.
@@ -46,9 +46,8 @@ pub struct Turn<'a> {
     ghost size: { length states.now.current ≡ round.now.script.now.nodes },
 }
 
-/// Lays what the node of a turn hears of the faulty nodes, and the fronts of that, into their
-/// places.
-fn hear<M: Machine>(turn: &Turn<'_>, machine: &M, room: &mut LayerRoom)
+/// Lays what the node hears of the faulty nodes, and the fronts of that, into their places.
+fn hear<M: Machine>(turn: &NodeStep<'_>, machine: &M, room: &mut LayerBuffers)
     requires depth { (M.machine machine.now).depth ≤ turn.now.round.now.script.now.shape.depth }
     requires laid { IsLaid (M.machine machine.now) turn.now.round.now.script.now
         turn.now.round.now.t turn.now.states.now.current room.old }
@@ -75,7 +74,7 @@ fn hear<M: Machine>(turn: &Turn<'_>, machine: &M, room: &mut LayerRoom)
 
 /// The machine's step of node `v`, from the fronts of what it hears: its new front is written into
 /// the room, and what it showed is returned.
-fn step_machine<M: Machine>(machine: &M, v: u32, room: &mut LayerRoom) -> u64
+fn step_machine<M: Machine>(machine: &M, v: u32, room: &mut LayerBuffers) -> u64
     requires node { v < (M.machine machine.now).nodes }
     requires fronts { IsConfiguration (M.machine machine.now) room.old.fronts.items }
     requires work { IsFor (M.machine machine.now).nodes room.old.below.work }
@@ -94,8 +93,8 @@ fn step_machine<M: Machine>(machine: &M, v: u32, room: &mut LayerRoom) -> u64
     machine.output(v, &room.fronts[v as usize])
 }
 
-/// The layer's step of node `v`, from what it showed and what it hears, behind its new front.
-fn step_layer<O: Overlay>(overlay: &mut O, v: u32, output: u64, room: &mut LayerRoom)
+/// The layer's step of node `v`, from what it showed and what it hears, after its new front.
+fn step_layer<O: Overlay>(overlay: &mut O, v: u32, output: u64, room: &mut LayerBuffers)
     requires front { length room.old.front.registers ≤ length room.old.below.out.registers }
     requires step { 0 < (O.layer overlay.old).extra → CanStep (O.layer overlay.old) v output
         room.old.below.heard.items room.old.below.out }
@@ -122,9 +121,14 @@ fn step_layer<O: Overlay>(overlay: &mut O, v: u32, output: u64, room: &mut Layer
     overlay.advance(v, output, &heard, &mut room.below.work, &mut room.below.out);
 }
 
-/// The step of the node of a turn with its layer: its new state, or that into which it is put where
-/// an era begins, is written into the room.
-fn step<M: Machine, O: Overlay>(turn: &Turn<'_>, machine: &M, overlay: &mut O, room: &mut LayerRoom)
+/// The step of a node with its layer: its new state, or that into which it is put if an era begins,
+/// is written into the room.
+fn step<M: Machine, O: Overlay>(
+    turn: &NodeStep<'_>,
+    machine: &M,
+    overlay: &mut O,
+    room: &mut LayerBuffers,
+)
     requires read { IsReadWithLayer (M.machine machine.now) (O.layer overlay.old)
         turn.now.round.now.script.now }
     requires laid { IsLaid (M.machine machine.now) turn.now.round.now.script.now
@@ -142,8 +146,8 @@ fn step<M: Machine, O: Overlay>(turn: &Turn<'_>, machine: &M, overlay: &mut O, r
     ensures laid { IsLaid (M.machine machine.now) turn.now.round.now.script.now
         turn.now.round.now.t turn.now.states.now.current room.new }
 {
-    machine.tell();
-    turn.states.tell();
+    machine.facts();
+    turn.states.facts();
     hear(turn, machine, room);
     let output = step_machine(machine, turn.v, room);
     step_layer(overlay, turn.v, output, room);
@@ -151,13 +155,13 @@ fn step<M: Machine, O: Overlay>(turn: &Turn<'_>, machine: &M, overlay: &mut O, r
 }
 
 /// The steps of all nodes in a round, which has begun for the layer: from the current states, whose
-/// fronts are laid, to the next ones. Where an era begins behind the round, nodes are put into the
+/// fronts are laid, to the next ones. If an era begins after the round, nodes are put into the
 /// states that it gives them.
 pub fn step_all<M: Machine, O: Overlay>(
     round: &Round<'_>,
     machine: &M,
     overlay: &mut O,
-    room: &mut LayerRoom,
+    room: &mut LayerBuffers,
     states: &mut Packed,
 )
     requires read { IsReadWithLayer (M.machine machine.now) (O.layer overlay.old)
@@ -177,10 +181,10 @@ pub fn step_all<M: Machine, O: Overlay>(
         (O.kept overlay.old)) (range_with_len 0 (length (O.kept overlay.old))) }
     ensures ready { IsReady (M.machine machine.now) round.now.script.now room.new }
 {
-    states.tell();
+    states.facts();
     lay(states, &mut room.below.heard);
     for v in 0..states.nodes() {
-        let turn = Turn {
+        let turn = NodeStep {
             round: &*round,
             states: &*states,
             v,

@@ -50,7 +50,7 @@ period_of (suc d) m o =
 pub has_period : PointerHasPeriod
 has_period beat leaders i o = period_of (interval_of beat leaders i) leaders o
 
--- the span holds a whole number of turns of each block's pointer
+-- the span holds a whole number of periods of each block's pointer
 pub turns : (beat m k i : ℕ) → i < k
     → (n : ℕ) × (interval_of beat m k ≡ interval_of beat m i * m * n)
 turns beat m zero i lt = absurd (omega arith)
@@ -60,7 +60,7 @@ turns beat m (suc k) i lt =
     (t.0 * (2 * m), interval_suc beat m k ∙ ap (λ y. y * (2 * m)) t.1 ∙ (omega arith)))
     (2, interval_suc beat m k ∙ (omega arith)) i lt
 
--- a quotient's remainder does not see whole turns
+-- a quotient's remainder does not see whole periods
 turn_free : (d m n z x : ℕ) → 0 < d → z ≡ d * m * n → x % z / d % m ≡ x / d % m
 turn_free d m n z x pos e =
     let f : z * (x / z) ≡ d * m * n * (x / z) = ap (λ y. y * (x / z)) e in

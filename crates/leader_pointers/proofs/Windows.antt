@@ -36,15 +36,14 @@ aligned d m b y pos h =
           ∙ q.3,
     )
 
--- the window from s on where the blocks below h are looked at, and block i has the output c i + x
--- at x
+-- the window from s on if the blocks below h are looked at, and block i has the output c i + x at x
 Meeting : (beat m b : ℕ) (sound : ℕ → Bool) (c : ℕ → ℕ) (h s : ℕ) → Type 0
 Meeting beat m b sound c h s =
     (w : ℕ) × (s ≤ w) × (w + beat ≤ s + interval_of beat m h)
     × ((i : ℕ) → i < h → (x : ℕ) → sound i ≡ true → w ≤ x → x < w + beat
     → pointer_of beat m i (c i + x) ≡ b)
 
--- one block more, sound or not
+-- one more block, sound or not
 with_block : (beat m b : ℕ) (sound : ℕ → Bool) (c : ℕ → ℕ) (h s : ℕ) → 1 ≤ beat → b < m
     → (sound h ≡ true) ⊎ (sound h ≡ false) → ((s : ℕ) → Meeting beat m b sound c h s)
     → Meeting beat m b sound c (suc h) s

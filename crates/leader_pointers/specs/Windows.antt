@@ -17,8 +17,8 @@ pub record Window (beat leaders blocks t leader : ℕ) (sound : ℕ → Bool)
   pub points : (i r : ℕ) → i < blocks → IsTrue (sound i) → start ≤ r → r < start + beat
       → pointer_of beat leaders i (output i r) ≡ leader
 
--- Where each sound block counts for the span, modulo a multiple of it, each leader has such a
--- window. The other blocks are free.
+-- If each sound block counts for the span, modulo a multiple of it, each leader has such a window.
+-- The other blocks are free.
 abbrev pub BlocksMeetAtEachLeader : Type 0
 BlocksMeetAtEachLeader =
     (beat leaders blocks modulus t leader : ℕ) (sound : ℕ → Bool) (output : ℕ → ℕ → ℕ)

@@ -25,7 +25,7 @@ pub fn modulus_is_unseen()
     ensures { ModulusIsUnseen }
 {}
 
-/// The common window. Where all sound blocks count modulo a multiple of the span for a whole span,
+/// The common window. If all sound blocks count modulo a multiple of the span for a whole span,
 /// they all point to any given leader for a whole beat. The first outputs may be any numbers.
 ///
 /// It holds because an interval of a block is `2 * leaders` intervals of the block before it: in so

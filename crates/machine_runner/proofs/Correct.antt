@@ -51,14 +51,14 @@ module _ (level n : ℕ) (faulty : List ℕ) (config : List State) where
       → correct_from v ≡ register_at level (state_of config v) ∷ correct_from (v + 1)
   from_correct v lt is = from_one v lt ∙ rw is refl
 
-  -- where one is not locked, not all are
+  -- if one is not locked, not all are
   pub one_is_not : (value v : ℕ) → v < n → is_in faulty v ≡ false
       → is_locked_at value (register_at level (state_of config v)) ≡ false
       → list_all (is_locked_at value) (correct_from v) ≡ false
   one_is_not value v lt is not_locked = rw (from_correct v lt is)
       (ap (λ (b : Bool). b && list_all (is_locked_at value) (correct_from (v + 1))) not_locked)
 
-  -- where one is locked, it depends on the others
+  -- if one is locked, it depends on the others
   pub one_is : (value v : ℕ) → v < n → is_in faulty v ≡ false
       → is_locked_at value (register_at level (state_of config v)) ≡ true
       → list_all (is_locked_at value) (correct_from v)

@@ -1,11 +1,11 @@
 -- Each era of what is played is a run of the machine.
-use Rattle.std.proofs.Common.{◌≡◌, ℕ, zero, suc, ◌+◌, ◌-◌, ◌<◌, ◌≤◌, ◌%◌, List, [], length, map}
+use Rattle.std.proofs.Common.{◌≡◌, ℕ, zero, suc, ◌+◌, ◌-◌, ◌<◌, ◌≤◌, List, [], length, map}
 use Rattle.std.proofs.Common.{None, unwrap_or, add-one, refl, sym, ap, ◌∙◌, subst, arith}
 use Rattle.std.specs.List.{range_with_len}
 use Rattle.std.proofs.lemmas.List.FromFn.{length-map-range_with_len, get_or-map-range_with_len}
 use Rattle.sync_types.specs.States.{State, zero_state}
 use Rattle.construction.specs.Steps.{state_of}
-use Rattle.construction.specs.Runs.{configuration, heard_by}
+use Rattle.construction.specs.Runs.{heard_by}
 use Rattle.machines.specs.Machines.{Machine, IsState, IsConfiguration, IsTold, IsTable, Round}
 use Rattle.machines.specs.Machines.{IsNext, Run, AllShow, IsLocked, CountsFrom}
 use Rattle.machines.specs.Laws.{IsSound}
@@ -15,13 +15,16 @@ use Rattle.adversary_script.specs.Lookup.{hit_at}
 use Rattle.adversary_script.specs.Lies.{AreStates, start_of, lie_of}
 use Rattle.adversary_script.proofs.LiesInRange.{starts_in_range, lies_in_range}
 use Rattle.machine_runner.specs.Laws.{IsReadFor, EraCountsFrom, EraStaysLocked, ErasAreRuns}
-use Rattle.machine_runner.specs.Laws.{ErasLock}
-use Rattle.machine_runner.specs.Laws.{ErasCount, ErasStayLocked}
-use Rattle.machine_runner.specs.Locks.{era_locked}
+use Rattle.machine_runner.specs.Laws.{ErasLock, ErasCount, ErasStayLocked}
+use Rattle.machine_runner.specs.Locks.{is_locked, era_locked}
 use Rattle.machine_runner.specs.Played.{lies_at, heard_at, after_round, played_at, era_run}
-use Rattle.machine_runner.proofs.FirstLocked.{first_locked_below, passes}
+use Rattle.machine_runner.proofs.Eras.{era_long, neighbours, same_faulty, to_played, from_played}
+use Rattle.machine_runner.proofs.Eras.{counts_played}
+use Rattle.machine_runner.proofs.FirstLocked.{passes}
+use Rattle.machine_runner.proofs.FirstPassing.{first_locked_below}
 use Rattle.machine_runner.proofs.Firsts.{in_era, none_inside, none_hit, era_some, end_within}
 use Rattle.machine_runner.proofs.Hits.{hit_has, put_has}
+use Rattle.machine_runner.proofs.Locked.{lock_test_is_exact}
 use Rattle.machine_runner.proofs.Places.{each, placed}
 use Rattle.machine_runner.proofs.ReadFor.{state_is, range_is, borne_in}
 
@@ -72,7 +75,7 @@ module _ (machine : Machine) (s : Script) (sound : IsSound machine)
       (starts_in_range s is.whole is.shape.sound v))
   played_is (suc t) = steps_are t (played_at machine s t)
 
-  -- where nobody is put into a state, the new state of each node is its step
+  -- if nobody is put into a state, the new state of each node is its step
   stepped : (t v n : ℕ) (faulty : List ℕ) → s.nodes ≡ n → faulty_at s t ≡ faulty → v < n
       → hit_at s (t + 1) v ≡ None
       → state_of (played_at machine s (suc t)) v
@@ -88,9 +91,8 @@ module _ (machine : Machine) (s : Script) (sound : IsSound machine)
       ∙ ap (λ m. machine.step v (heard_by m faulty config (lies_at s t config) v)) nodes
 
   module _ (j : ℕ) (le : j ≤ length s.eras) where
-    same_faulty : (t : ℕ) → first_of_era s j ≤ t → t < end_of_era s j
-        → faulty_at s t ≡ faulty_of_era s j
-    same_faulty t low high = ap (faulty_of_era s) (in_era s is.whole.formed.rising j t le low high)
+    abbrev at : ℕ → List State
+    at = played_at machine s
 
     pub round_in : (t : ℕ) → first_of_era s j ≤ t → t + 1 < end_of_era s j
         → Round machine (faulty_of_era s j) (played_at machine s t)
@@ -100,95 +102,46 @@ module _ (machine : Machine) (s : Script) (sound : IsSound machine)
         rw (add-one t) (record {
           table = lies_are t (played_at machine s t) (played_is t);
           steps = λ v lt correct. stepped t v machine.nodes (faulty_of_era s j) is.right.nodes
-              (same_faulty t low (omega arith)) lt (none_hit s (t + 1) v none);
+              (same_faulty s is.whole j le t low (omega arith)) lt (none_hit s (t + 1) v none);
         })
-
-    length_is : length (era_run machine s j) ≡ end_of_era s j - first_of_era s j
-    length_is = length-map-range_with_len (λ i. played_at machine s (first_of_era s j + i)) 0
-        (end_of_era s j - first_of_era s j)
-
-    configuration_is : (i : ℕ) → i < end_of_era s j - first_of_era s j
-        → configuration (era_run machine s j) i ≡ played_at machine s (first_of_era s j + i)
-    configuration_is i lt = get_or-map-range_with_len
-        (λ i. played_at machine s (first_of_era s j + i)) 0
-        (end_of_era s j - first_of_era s j) i i [] lt (omega arith)
 
     pub run_of_era : Run machine (faulty_of_era s j) (era_run machine s j)
     run_of_era = record {
-      some = let some = era_some s is.whole j le in omega (arith, some, length_is);
+      some = let some = era_some s is.whole j le in omega (arith, some, era_long s at j);
       configurations = each (IsConfiguration machine)
           (λ i. played_at machine s (first_of_era s j + i))
           (end_of_era s j - first_of_era s j) (λ i lt. played_is (first_of_era s j + i));
-      rounds = λ i lt.
-          let here = configuration_is i (omega (arith, length_is)) in
-          let there = configuration_is (i + 1) (omega (arith, length_is)) in
-          let next : first_of_era s j + i + 1 ≡ first_of_era s j + (i + 1) = omega arith in
-          rw (here, there) (subst (λ t. IsNext machine (faulty_of_era s j)
-          (played_at machine s (first_of_era s j + i)) (played_at machine s t)) next
-          (record {
-            lies = lies_at s (first_of_era s j + i)
-                (played_at machine s (first_of_era s j + i));
-            round =
-                round_in (first_of_era s j + i) (omega arith) (omega (arith, length_is));
-          }));
+      rounds = neighbours s at j (λ t. IsNext machine (faulty_of_era s j)) []
+          (λ t low high. record { lies = lies_at s t (at t); round = round_in t low high });
     }
 
-    -- a fact on a configuration of the run, as one on the configuration that is played, and the
-    -- other way
-    module _ (P : List ℕ → List State → Type 0) (t i : ℕ) (at : first_of_era s j + i ≡ t)
-        (before : t < end_of_era s j) where
-      same_configuration : configuration (era_run machine s j) i ≡ played_at machine s t
-      same_configuration = configuration_is i (omega (arith, at, before))
-          ∙ ap (played_at machine s) at
-
-      to_played : P (faulty_of_era s j) (configuration (era_run machine s j) i)
-          → P (faulty_at s t) (played_at machine s t)
-      to_played h = subst (λ faulty. P faulty (played_at machine s t))
-          (sym (same_faulty t (omega (arith, at)) before))
-          (subst (λ (config : List State). P (faulty_of_era s j) config) same_configuration h)
-
-      from_played : P (faulty_at s t) (played_at machine s t)
-          → P (faulty_of_era s j) (configuration (era_run machine s j) i)
-      from_played h = subst (λ (config : List State). P (faulty_of_era s j) config)
-          (sym same_configuration)
-          (subst (λ faulty. P faulty (played_at machine s t))
-          (same_faulty t (omega (arith, at)) before) h)
-
-    -- outputs of the run that count are those that are played
     counts_from : (from : ℕ) → CountsFrom machine (faulty_of_era s j) (era_run machine s j) from
         → EraCountsFrom machine s j (first_of_era s j + from)
-    counts_from from counts = record {
-      output = λ t. counts.output (t - first_of_era s j);
-      shows = λ t lo hi. to_played (λ faulty config.
-          AllShow machine faulty config (counts.output (t - first_of_era s j))) t
-          (t - first_of_era s j) (omega arith) hi
-          (counts.shows (t - first_of_era s j) (omega arith) (omega (arith, length_is)));
-      grows = λ t lo hi.
-          let next : t + 1 - first_of_era s j ≡ t - first_of_era s j + 1 = omega arith in
-          subst (λ i. counts.output i
-          ≡ (counts.output (t - first_of_era s j) + 1) % machine.modulus) (sym next)
-          (counts.grows (t - first_of_era s j) (omega arith) (omega (arith, length_is)));
-    }
+    counts_from from counts =
+        counts_played s is.whole j le at (AllShow machine) machine.modulus from
+        counts.output counts.shows counts.grows
 
     era_locks : first_of_era s j + machine.bound < end_of_era s j
         → IsLocked machine (faulty_at s (first_of_era s j + machine.bound))
         (played_at machine s (first_of_era s j + machine.bound))
-    era_locks reaches = to_played (IsLocked machine) (first_of_era s j + machine.bound)
-        machine.bound refl reaches
+    era_locks reaches = to_played s is.whole j le at (IsLocked machine)
+        (first_of_era s j + machine.bound) machine.bound refl reaches
         (sound.locks (faulty_of_era s j) (era_run machine s j) (borne_in machine s is j le)
-        run_of_era (omega (arith, length_is)))
+        run_of_era (omega (arith, era_long s at j)))
 
     era_stays : (t : ℕ) → first_of_era s j ≤ t → t < end_of_era s j
         → IsLocked machine (faulty_at s t) (played_at machine s t) → EraStaysLocked machine s j t
     era_stays t low high locked =
         let i : ℕ = t - first_of_era s j in
+        let long = era_long s at j in
         let back : first_of_era s j + i ≡ t = omega arith in
         let stays = sound.stays (faulty_of_era s j)
-        (era_run machine s j) (borne_in machine s is j le) run_of_era i (omega (arith, length_is))
-        (from_played (IsLocked machine) t i back high locked) in
+        (era_run machine s j) (borne_in machine s is j le) run_of_era i (omega (arith, long))
+        (from_played s is.whole j le at (IsLocked machine) t i back high locked) in
         record {
-          locked = λ u lo hi. to_played (IsLocked machine) u (u - first_of_era s j) (omega arith) hi
-              (stays.locked (u - first_of_era s j) (omega arith) (omega (arith, length_is)));
+          locked = λ u lo hi. to_played s is.whole j le at (IsLocked machine) u
+              (u - first_of_era s j) (omega arith) hi
+              (stays.locked (u - first_of_era s j) (omega arith) (omega (arith, long)));
           counts = subst (EraCountsFrom machine s j) back (counts_from i stays.counts);
         }
 
@@ -202,10 +155,10 @@ pub eras_lock : ErasLock
 eras_lock machine s sound is j le reaches =
     let t : ℕ = first_of_era s j + machine.bound in
     let here = in_era s is.whole.formed.rising j t le (omega arith) reaches in
-    first_locked_below (era_locked machine s (played_at machine s) j) t s.rounds
-    (end_within s is.whole j t le reaches)
-    (passes machine s (played_at machine s) is.whole j t le (end_within s is.whole j t le reaches) t
-    here
+    let inside = end_within s is.whole j t le reaches in
+    first_locked_below (era_locked machine s (played_at machine s) j) t s.rounds inside
+    (passes (is_locked machine) (IsLocked machine) (lock_test_is_exact machine) s
+    (played_at machine s) is.whole j t le inside t here
     (subst (λ faulty. IsLocked machine faulty (played_at machine s t)) (ap (faulty_of_era s) here)
     (era_locks machine s sound is j le reaches)))
 

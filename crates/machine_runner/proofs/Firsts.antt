@@ -96,7 +96,7 @@ found_none : (t : ℕ) (era : Era) (more : Option Era) (here : Bool) → eqb era
 found_none t era more true is other none = absurd (other (eqb-true era.first t is))
 found_none t era more false is other none = none
 
--- where no era has that first configuration, the search finds none
+-- if no era has that first configuration, the search finds none
 none_found : (t : ℕ) (eras : List Era) → ((k : ℕ) → k < length eras
     → get_or (map (λ era. era.first) eras) k 0 ≡ t → ⊥) → find (λ era. eqb era.first t) eras ≡ None
 none_found t [] none = refl
@@ -149,7 +149,7 @@ module _ (s : Script) where
         (λ lt. let next : first_of_era s j < first_of_era s (j + 1) =
         rising j (omega (arith, lt)) in omega (arith, is, next, next_first j))
 
-    -- where the era of a configuration doesn't begin with it, none does
+    -- if the era of a configuration doesn't begin with it, none does
     pub none_begins : (t : ℕ) → (0 < era_of s t → first_of_era s (era_of s t) ≡ t → ⊥)
         → BeginsAt s t None
     none_begins t not j some le is =
@@ -164,7 +164,7 @@ module _ (s : Script) where
         let first = ap (first_of_era s) here in
         omega (arith, first, is, low))
 
-  -- where no era begins no node is put into a state
+  -- if no era begins, no node is put into a state
   pub none_hit : (t v : ℕ) → BeginsAt s t None → hit_at s t v ≡ None
   none_hit t v none = rw (none_found t s.eras
       (λ k lt is. none (k + 1) (omega arith) (omega arith) (next_first k ∙ is))) refl

@@ -1,4 +1,4 @@
--- What a node hears, where the states of faulty nodes are replaced by what they tell.
+-- What a node hears: the states, those of faulty nodes replaced by what they tell.
 use Rattle.std.proofs.Common.{◌≡◌, ℕ, zero, suc, ◌<◌, Bool, true, false, cond, not, ◌||◌, List, []}
 use Rattle.std.proofs.Common.{◌∷◌, length, map, refl, sym, ap, ◌∙◌, subst, arith}
 use Rattle.std.specs.Prelude.{◌==◌, slice_index, slice_index_or}

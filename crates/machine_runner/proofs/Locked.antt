@@ -32,7 +32,7 @@ locked_passes : (value : ℕ) → is_locked_at value (locked_at value) ≡ true
 locked_passes value = rw (eq-eqb value value refl) refl
 
 module _ (level n : ℕ) (faulty : List ℕ) (config : List State) where
-  -- where all from a place on pass, each does
+  -- if all from a place on pass, each does
   each : (p : Reg → Bool) (k from : ℕ) → n ≡ from + k
       → list_all p (correct_from level n faulty config from) ≡ true
       → (v : ℕ) → from ≤ v → v < n → is_in faulty v ≡ false
@@ -64,7 +64,7 @@ module _ (level n : ℕ) (faulty : List ℕ) (config : List State) where
             later (rest_of (is_in faulty from) refl) (omega (arith, other))
       ]
 
-  -- where each passes, all from a place on do
+  -- if each passes, all from a place on do
   all : (p : Reg → Bool) (k from : ℕ) → n ≡ from + k
       → ((v : ℕ) → from ≤ v → v < n → is_in faulty v ≡ false
       → p (register_at level (state_of config v)) ≡ true)
@@ -88,7 +88,7 @@ module _ (level n : ℕ) (faulty : List ℕ) (config : List State) where
       ] in
       by (is_in faulty from) refl
 
-  -- the first value of registers that are all locked at one value, where there are any
+  -- the first value of registers that are all locked at one value, if there are any
   first_of : (value : ℕ) (registers : List Reg) → list_all (is_locked_at value) registers ≡ true
       → are_locked registers ≡ true
   first_of value [] locked = refl

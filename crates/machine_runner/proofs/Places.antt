@@ -40,7 +40,7 @@ placed P f n holds v lt =
     subst (P v) (sym (get_or-map-range_with_len f 0 n v v (zero_state 0) lt (omega arith)))
     (holds v lt)
 
--- a property of a place, where one place is written
+-- a property of a place, when one place is written
 pub set_has : (P : ℕ → State → Type 0) (states : List State) (v : ℕ) (out : State)
     → v < length states → P v out → (u : ℕ) → ((u ≡ v → ⊥) → P u (state_of states u))
     → P u (state_of (set states v out) u)

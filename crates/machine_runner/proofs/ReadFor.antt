@@ -1,16 +1,14 @@
 -- What a script that was read for a machine says of the machine's nodes.
-use Rattle.std.proofs.Common.{ℕ, ◌<◌, ◌≤◌, [], All, length, refl, sym, ◌∙◌, subst}
-use Rattle.std.proofs.Common.{arith}
-use Rattle.std.proofs.lemmas.List.{length-map}
-use Rattle.std.proofs.lemmas.List.Elements.{All-get_or}
+use Rattle.std.proofs.Common.{ℕ, ◌<◌, ◌≤◌, All, length, refl, sym, ◌∙◌, subst, arith}
 use Rattle.sync_types.specs.States.{State}
 use Rattle.state_codec.specs.Shapes.{Fields, fields_at}
 use Rattle.state_codec.specs.Ranges.{InRange}
 use Rattle.machines.specs.Machines.{Machine, IsState, IsBorne}
-use Rattle.adversary_script.specs.Scripts.{Era, Script, faulty_sets}
+use Rattle.adversary_script.specs.Scripts.{Script, faulty_sets}
 use Rattle.adversary_script.specs.Eras.{faulty_of_era}
 use Rattle.adversary_script.specs.ScriptPart.{IsTolerated}
 use Rattle.machine_runner.specs.Laws.{IsShapeOf, IsReadFor, ReadersFit}
+use Rattle.machine_runner.proofs.Eras.{of_each_era}
 
 -- what the reader of scripts says of a script, for a machine
 pub readers_fit : ReadersFit
@@ -26,7 +24,7 @@ readers_fit machine shape script fits for whole = record {
 }
 
 module _ (machine : Machine) (s : Script) (is : IsReadFor machine s) where
-  -- a state of a node's fields is one of the machine's node, and the other way
+  -- a state of a node's fields is one of the machine's node, and conversely
   pub state_is : (v : ℕ) → v < s.nodes → (x : State) → InRange (fields_at s.shape v) x
       → IsState machine v x
   state_is v lt x range = subst (λ (fields : Fields). InRange fields x)
@@ -40,7 +38,5 @@ module _ (machine : Machine) (s : Script) (is : IsReadFor machine s) where
   -- the faulty nodes of each era are what the machine tolerates
   pub borne_in : (j : ℕ) → j ≤ length s.eras → IsBorne machine (faulty_of_era s j)
   borne_in j le =
-      let few : IsTolerated machine.nodes machine.faults (faulty_of_era s j) =
-      All-get_or (IsTolerated machine.nodes machine.faults) (faulty_sets s) j []
-      (omega (arith, le, length-map s.eras (λ (era : Era). era.faulty))) is.right.borne in
+      let few = of_each_era (IsTolerated machine.nodes machine.faults) s j le is.right.borne in
       record { rising = few.rising; ids = few.ids; few = few.few }

@@ -7,7 +7,7 @@ use Rattle.adversary_script.specs.Scripts.{Script, IsScript}
 use Rattle.machine_runner.specs.Laws.{IsReadFor}
 use Rattle.machine_runner.specs.Played.{starts}
 use Rattle.machine_runner.proofs.Firsts.{begun_era}
-use Rattle.machine_runner.specs.declared.stepping.Room.{Room}
+use Rattle.machine_runner.specs.declared.stepping.RoundBuffers.{RoundBuffers}
 use Rattle.machine_runner.specs.Kept.{IsKept, locks_at}
 use Rattle.machine_runner.specs.Rooms.{IsReady}
 use Rattle.machine_runner.specs.Runners.{Running, begun}
@@ -49,7 +49,7 @@ module _ (script : Script) (key : List ℕ) where
     whole = whole_still read.whole;
   }
 
-  pub ready_still : (room : Room) (noise : List ℕ) (out : State) → IsReady script room
+  pub ready_still : (room : RoundBuffers) (noise : List ℕ) (out : State) → IsReady script room
       → noise ≡ key → length out.registers ≡ script.shape.depth
       → IsReady (rekeyed script key) (record room { noise = noise; out = out })
   ready_still room noise out ready is deep = record {
@@ -59,8 +59,8 @@ module _ (script : Script) (key : List ℕ) where
     out = deep;
   }
 
-  -- what a runner keeps, where it begins anew
-  kept_at_first : (machine : Machine) (room : Room) (noise : List ℕ) (out : State)
+  -- what a runner keeps, when it begins anew
+  kept_at_first : (machine : Machine) (room : RoundBuffers) (noise : List ℕ) (out : State)
       (states now : Pack) (locks begun : List (Option ℕ)) (at era : ℕ)
       → IsKept machine script room states locks at era → noise ≡ key
       → length out.registers ≡ script.shape.depth → now.shape ≡ states.shape
@@ -83,7 +83,7 @@ module _ (script : Script) (key : List ℕ) where
         known = known;
       }
 
-  pub kept_anew : (machine : Machine) (room : Room) (noise : List ℕ) (out : State)
+  pub kept_anew : (machine : Machine) (room : RoundBuffers) (noise : List ℕ) (out : State)
       (states now : Pack) (locks begun : List (Option ℕ)) (at era : ℕ)
       (other : Script) → other ≡ rekeyed script key
       → IsKept machine script room states locks at era → noise ≡ key
@@ -99,7 +99,7 @@ module _ (script : Script) (key : List ℕ) where
       (kept_at_first machine room noise out states now locks begun at era kept is deep shape size
       (start ∙ ap starts same) (known ∙ ap (λ (s : Script). locks_at machine s 0) same))
 
--- what a runner is, where it begins anew
+-- what a runner is, when it begins anew
 pub begun_anew : {M : Type 0} (machine : M) (script : Script) (at : ℕ) (r : Running M) → (let s :
     Running M = record { machine = machine; script = script; at = at } in s) ≡ r
     → (key : List ℕ) (other : Script) → other ≡ rekeyed script key

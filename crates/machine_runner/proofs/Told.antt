@@ -18,34 +18,32 @@ use Rattle.adversary_script.proofs.LiesInRange.{depth_of_node}
 use Rattle.machine_runner.specs.Played.{heard_at}
 use Rattle.machine_runner.proofs.Heard.{heard_is, is_among}
 use Rattle.machine_runner.proofs.Places.{set_has}
-use Rattle.machine_runner.specs.Hearing.{HasRoom, AreHonest}
+use Rattle.machine_runner.specs.Hearing.{heard_from, HasRoom, AreHonest}
 
 module _ (script : Script) (t v : ℕ) (config : List State) where
-  -- what v hears of a faulty node: of itself its state, and of another one what that tells it
-  abbrev pub heard_from : (u : ℕ) → State
-  heard_from u = cond (u == v) (state_of config u) (lie_of script t u v config)
+  module _ (u : ℕ) where
+    pub from_itself : u ≡ v → heard_from script t v config u ≡ state_of config u
+    from_itself same = let yes : u == v ≡ true = eq-eqb u v same in rw yes refl
 
-  pub from_itself : (u : ℕ) → u ≡ v → heard_from u ≡ state_of config u
-  from_itself u same = let yes : u == v ≡ true = eq-eqb u v same in rw yes refl
+    from_where : (b : Bool) → u == v ≡ b → (u ≡ v → ⊥)
+        → heard_from script t v config u ≡ lie_of script t u v config
+    from_where true is other = absurd (other (eqb-true u v is))
+    from_where false is other = rw is refl
 
-  from_where : (u : ℕ) (b : Bool) → u == v ≡ b → (u ≡ v → ⊥) → heard_from u
-      ≡ lie_of script t u v config
-  from_where u true is other = absurd (other (eqb-true u v is))
-  from_where u false is other = rw is refl
-
-  pub from_other : (u : ℕ) → (u ≡ v → ⊥) → heard_from u ≡ lie_of script t u v config
-  from_other u other = from_where u (u == v) refl other
+    pub from_other : (u ≡ v → ⊥) → heard_from script t v config u ≡ lie_of script t u v config
+    from_other other = from_where (u == v) refl other
 
   -- the faulty nodes before place i of their set are laid, and the correct ones stand
   pub record ToldBelow (ids : List ℕ) (i : ℕ) (heard : List State) : Type 0 where
     pub room : HasRoom script heard
     pub honest : AreHonest script t config heard
     pub told : (k : ℕ) → k < i → state_of heard (slice_index ids k)
-        ≡ heard_from (slice_index ids k)
+        ≡ heard_from script t v config (slice_index ids k)
 
   pub one_told : (ids : List ℕ) → ids ≡ faulty_at script t → (i u : ℕ) (heard : List State)
       (out : State) → i < length ids → u ≡ slice_index ids i → u < script.nodes
-      → out ≡ heard_from u → length out.registers ≡ script.shape.depth → ToldBelow ids i heard
+      → out ≡ heard_from script t v config u → length out.registers ≡ script.shape.depth
+      → ToldBelow ids i heard
       → ToldBelow ids (i + 1) (set heard u out)
   one_told ids same i u heard out lt at node is deep h =
       let size = h.room.size in
@@ -62,7 +60,7 @@ module _ (script : Script) (t v : ℕ) (config : List State) where
         honest = λ w wlt correct. set_has (λ w s. is_in (faulty_at script t) w ≡ false
             → s ≡ state_of config w) heard u out inside
             (λ no. absurd (true≢false (sym bad ∙ no))) w (λ other. h.honest w wlt) correct;
-        told = λ k klt. set_has (λ w s. s ≡ heard_from w) heard u out inside is
+        told = λ k klt. set_has (λ w s. s ≡ heard_from script t v config w) heard u out inside is
             (slice_index ids k) (λ other. elim (cases_eq k i) [
               | inl here ↦ absurd (other (ap (slice_index ids) here ∙ sym at))
               | inr less ↦ h.told k (omega (arith, klt, less))
@@ -77,7 +75,7 @@ module _ (script : Script) (t v : ℕ) (config : List State) where
       node h.room.size h.honest (λ u lt bad.
       let p = place_of ids u (subst (λ (all : List ℕ). is_in all u ≡ true) (sym same) bad) in
       let inside = p.1 in
-      subst (λ (w : ℕ). state_of heard w ≡ heard_from w) p.2
+      subst (λ (w : ℕ). state_of heard w ≡ heard_from script t v config w) p.2
       (h.told p.0 (omega (arith, inside, end))))
 
 -- a state that is read of a configuration has the registers that it had there

@@ -1,10 +1,15 @@
--- The list in which what a node hears is laid.
-use Rattle.std.specs.Prelude.{◌≡◌, ℕ, ◌<◌, List, length, All, false}
+-- What a node hears of the faulty ones, and the list in which what is heard is laid.
+use Rattle.std.specs.Prelude.{◌≡◌, ℕ, ◌<◌, List, length, All, false, ◌==◌, if◌then◌else◌}
 use Rattle.sync_types.specs.FaultSets.{is_in}
 use Rattle.sync_types.specs.States.{State}
 use Rattle.construction.specs.Steps.{state_of}
 use Rattle.adversary_script.specs.Scripts.{Script}
 use Rattle.adversary_script.specs.Eras.{faulty_at}
+use Rattle.adversary_script.specs.Lies.{lie_of}
+
+-- what node v hears of a faulty node u in round t: its lie, and of itself its state
+abbrev pub heard_from : Script → (t v : ℕ) → List State → (u : ℕ) → State
+heard_from script t v config u = if u == v then state_of config u else lie_of script t u v config
 
 -- there is room for a state of each node
 pub record HasRoom (script : Script) (heard : List State) : Type 0 where

@@ -1,25 +1,23 @@
 -- What a runner keeps: its configuration is the played one, and of each era it knows the first
 -- locked configuration so far.
-use Rattle.std.specs.Prelude.{◌≡◌, ℕ, ◌+◌, ◌≤◌, List, length, map, Option}
-use Rattle.std.specs.List.{range_with_len}
+use Rattle.std.specs.Prelude.{◌≡◌, ℕ, ◌+◌, ◌≤◌, List, length, Option}
 use Rattle.state_codec.specs.Packs.{Pack}
 use Rattle.machines.specs.Machines.{Machine}
 use Rattle.machines.specs.Laws.{IsSound}
 use Rattle.adversary_script.specs.Scripts.{Script}
 use Rattle.adversary_script.specs.Eras.{era_of}
+use Rattle.machine_runner.specs.FirstLocked.{known_locks}
 use Rattle.machine_runner.specs.Laws.{IsReadFor}
-use Rattle.machine_runner.specs.Locks.{first_locked, era_locked}
+use Rattle.machine_runner.specs.Locks.{is_locked}
 use Rattle.machine_runner.specs.Played.{played_at}
-use Rattle.machine_runner.specs.declared.stepping.Room.{Room}
+use Rattle.machine_runner.specs.declared.stepping.RoundBuffers.{RoundBuffers}
 use Rattle.machine_runner.specs.Rooms.{IsReady}
 
 -- of each era the first locked configuration up to number `at`
 abbrev pub locks_at : Machine → Script → (at : ℕ) → List (Option ℕ)
-locks_at machine script at =
-    map (λ j. first_locked (era_locked machine script (played_at machine script) j) at)
-    (range_with_len 0 (length script.eras + 1))
+locks_at machine script at = known_locks (is_locked machine) script (played_at machine script) at
 
-pub record IsKept (machine : Machine) (script : Script) (room : Room) (states : Pack)
+pub record IsKept (machine : Machine) (script : Script) (room : RoundBuffers) (states : Pack)
     (locks : List (Option ℕ)) (at era : ℕ) : Type 0 where
   pub sound : IsSound machine
   pub read : IsReadFor machine script

@@ -1,5 +1,5 @@
 -- What holds of the configurations that are played of a script that was read for a sound machine.
-use Rattle.std.specs.Prelude.{◌≡◌, ℕ, ◌+◌, ◌%◌, ◌<◌, ◌≤◌, ◌↔◌, List, length, true, Option, Some}
+use Rattle.std.specs.Prelude.{◌≡◌, ℕ, ◌+◌, ◌<◌, ◌≤◌, ◌↔◌, List, length, true, Option, Some}
 use Rattle.sync_types.specs.States.{State}
 use Rattle.state_codec.specs.Shapes.{Shape, IsShape, fields_at, shape_nodes}
 use Rattle.machines.specs.Machines.{Machine, Run, Round, AllShow, IsLocked}
@@ -7,6 +7,7 @@ use Rattle.machines.specs.Laws.{IsSound}
 use Rattle.adversary_script.specs.Scripts.{Script, IsScript}
 use Rattle.adversary_script.specs.Eras.{era_of, first_of_era, end_of_era, faulty_of_era, faulty_at}
 use Rattle.adversary_script.specs.ScriptPart.{IsScriptFor}
+use Rattle.machine_runner.specs.Eras as any
 use Rattle.machine_runner.specs.Locks.{is_locked, first_locked, era_locked, IsFirstLocked}
 use Rattle.machine_runner.specs.Played.{played_at, era_run, lies_at}
 
@@ -53,18 +54,15 @@ pub record EraIsRun (machine : Machine) (script : Script) (j : ℕ) : Type 0 whe
 
 -- From that configuration to the end of era j all nodes that are correct in it show one number,
 -- which grows by one modulo C.
-pub record EraCountsFrom (machine : Machine) (script : Script) (j from : ℕ) : Type 0 where
-  pub output : ℕ → ℕ
-  pub shows : (t : ℕ) → from ≤ t → t < end_of_era script j
-      → AllShow machine (faulty_at script t) (played_at machine script t) (output t)
-  pub grows : (t : ℕ) → from ≤ t → t + 1 < end_of_era script j
-      → output (t + 1) ≡ (output t + 1) % machine.modulus
+abbrev pub EraCountsFrom : Machine → Script → (j from : ℕ) → Type 0
+EraCountsFrom machine script j from =
+    any.EraCounts (AllShow machine) machine.modulus script (played_at machine script) j from
 
 -- from that configuration to the end of era j each one is locked, and they count
-pub record EraStaysLocked (machine : Machine) (script : Script) (j from : ℕ) : Type 0 where
-  pub locked : (t : ℕ) → from ≤ t → t < end_of_era script j
-      → IsLocked machine (faulty_at script t) (played_at machine script t)
-  pub counts : EraCountsFrom machine script j from
+abbrev pub EraStaysLocked : Machine → Script → (j from : ℕ) → Type 0
+EraStaysLocked machine script j from =
+    any.EraStaysLocked (AllShow machine) machine.modulus script (played_at machine script) j from
+    (IsLocked machine)
 
 -- Each configuration up to the last is of exactly one era.
 abbrev pub EachIsOfOneEra : Type 0
@@ -76,7 +74,7 @@ abbrev pub ErasAreRuns : Type 0
 ErasAreRuns = (machine : Machine) (script : Script) → IsSound machine → IsReadFor machine script
     → (j : ℕ) → j ≤ length script.eras → EraIsRun machine script j
 
--- Where an era reaches the bound, it has a first locked configuration, at the bound or before.
+-- If an era reaches the bound, it has a first locked configuration, at the bound or before.
 abbrev pub ErasLock : Type 0
 ErasLock = (machine : Machine) (script : Script) → IsSound machine → IsReadFor machine script
     → (j : ℕ) → j ≤ length script.eras

@@ -1,5 +1,5 @@
 -- Whether a configuration is locked.
-use Rattle.std.specs.Prelude.{ℕ, suc, ◌<◌, ◌≤◌, List, [], ◌∷◌, map, filter, not, nat_eq}
+use Rattle.std.specs.Prelude.{ℕ, List, [], ◌∷◌, map, filter, not, nat_eq}
 use Rattle.std.specs.Prelude.{Bool, true, ◌&&◌, Option, Some, None, unwrap_or}
 use Rattle.std.specs.List.{list_all, range_with_len}
 use Rattle.std.specs.Option.{option_eq}
@@ -9,15 +9,14 @@ use Rattle.construction.specs.Steps.{state_of}
 use Rattle.construction.specs.Runs.{is_in}
 use Rattle.machines.specs.Machines.{Machine, IsLocked}
 use Rattle.adversary_script.specs.Scripts.{Script}
-use Rattle.run_texts.specs.FirstLocked as words
-pub use Rattle.run_texts.specs.FirstLocked.{first_of, first_locked}
-use Rattle.adversary_script.specs.Eras.{first_of_era, end_of_era, faulty_of_era}
+use Rattle.machine_runner.specs.FirstLocked as any
+pub use Rattle.machine_runner.specs.FirstLocked.{first_of, first_locked}
 
 -- whether a register is marked and has the value a
 abbrev pub is_locked_at : ℕ → Reg → Bool
 is_locked_at a register = option_eq nat_eq register.a (Some a) && register.d
 
--- the value of the first register, where that is finite
+-- the value of the first register, if that is finite
 abbrev pub first_value : List Reg → ℕ
 first_value [] = 0
 first_value (register ∷ registers) = unwrap_or register.a 0
@@ -35,7 +34,7 @@ abbrev pub correct_registers : (register n : ℕ) → (faulty : List ℕ) → Li
 correct_registers register n faulty config = map (λ v. register_at register (state_of config v))
     (correct_nodes n faulty)
 
--- whether that register of the correct nodes is one, finite and marked, where there is such one
+-- whether that register of the correct nodes is one, finite and marked, if there is one
 abbrev pub is_locked_by : (lock : Option ℕ) → (n : ℕ) → (faulty : List ℕ) → List State → Bool
 is_locked_by None n faulty config = true
 is_locked_by (Some register) n faulty config =
@@ -47,27 +46,10 @@ is_locked machine faulty config = is_locked_by machine.lock machine.nodes faulty
 -- Of a script's configurations: whether configuration t is one of era j, and locked.
 abbrev pub era_locked : Machine → Script → (config_at : ℕ → List State) → (j : ℕ) → ℕ → Bool
 era_locked machine script config_at j t =
-    words.era_locked (is_locked machine) script config_at j t
+    any.era_locked (is_locked machine) script config_at j t
 
--- none of the configurations of era j before number `end` is locked
-abbrev pub NoneIsLocked : Machine → Script → (config_at : ℕ → List State) → (j end : ℕ) → Type 0
-NoneIsLocked machine script config_at j end =
-    (t : ℕ) → first_of_era script j ≤ t → t < end_of_era script j → t < end
-    → IsLocked machine (faulty_of_era script j) (config_at t) → ⊥
-
--- configuration t is of era j and locked, and none of that era before it is
-pub record IsLockedFirst (machine : Machine) (script : Script) (config_at : ℕ → List State)
-    (j t : ℕ) : Type 0 where
-  pub from : first_of_era script j ≤ t
-  pub before : t < end_of_era script j
-  pub locked : IsLocked machine (faulty_of_era script j) (config_at t)
-  pub first : NoneIsLocked machine script config_at j t
-
--- The first locked one of the configurations of era j up to number `at`; none, where none of them
--- is.
+-- The first locked one of the configurations of era j up to number `at`; none if none of them is.
 abbrev pub IsFirstLocked : Machine → Script → (config_at : ℕ → List State) → (j at : ℕ) → Option ℕ
     → Type 0
-IsFirstLocked machine script config_at j at (Some t) = (t ≤ at)
-    × IsLockedFirst machine script config_at j t
-IsFirstLocked machine script config_at j at None =
-    NoneIsLocked machine script config_at j (suc at)
+IsFirstLocked machine script config_at j at known =
+    any.IsFirstLocked (IsLocked machine) script config_at j at known

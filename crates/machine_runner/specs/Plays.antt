@@ -15,7 +15,7 @@ use Rattle.machine_runner.specs.Played.{starts, lies_at, played_at}
 abbrev pub lies_played : Machine → Script → (t : ℕ) → List (List State)
 lies_played machine script t = lies_at script t (played_at machine script t)
 
--- Configuration 0 has the starts. After a round, where an era begins, a node that has a start line
+-- Configuration 0 has the starts. After a round, if an era begins, a node that has a start line
 -- there is in its state, and each other one steps from what it hears, also the puppet of a faulty
 -- one. There the lies are the script's: what a faulty node tells another is what the first lie of
 -- the script that says this gives, or else its puppet's state.

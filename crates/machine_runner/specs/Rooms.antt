@@ -3,7 +3,7 @@ use Rattle.std.specs.Prelude.{◌≡◌, length}
 use Rattle.state_codec.specs.Packs.{Pack}
 use Rattle.counter_core.specs.Working.{IsFor}
 use Rattle.adversary_script.specs.Scripts.{Script}
-use Rattle.machine_runner.specs.declared.stepping.Room.{Room}
+use Rattle.machine_runner.specs.declared.stepping.RoundBuffers.{RoundBuffers}
 use Rattle.machine_runner.specs.Hearing.{HasRoom}
 
 -- a configuration of the script's nodes, of its shape
@@ -12,7 +12,7 @@ pub record IsConfiguration (script : Script) (states : Pack) : Type 0 where
   pub size : length states.current ≡ script.nodes
 
 -- the room was made for the script
-pub record IsReady (script : Script) (room : Room) : Type 0 where
+pub record IsReady (script : Script) (room : RoundBuffers) : Type 0 where
   pub noise : room.noise ≡ script.key
   pub heard : HasRoom script room.heard.items
   pub work : IsFor script.nodes room.work

@@ -14,13 +14,13 @@ pub fn lay(states: &Packed, heard: &mut [NodeState])
     requires deep { All (λ s. length s.registers ≡ states.now.shape.depth) heard.old }
     ensures { heard.new ≡ states.now.current }
 {
-    states.tell();
+    states.facts();
     for v in 0..states.nodes() {
         states.old(v, &mut heard[v as usize]);
     }
 }
 
-/// A node that hears in a round what is told from a configuration of the script's nodes.
+/// A node that hears, in a round, the script's nodes in a configuration.
 #[derive(Clone, Copy, Drop)]
 pub struct Receiver<'a> {
     /// The script.
@@ -56,8 +56,8 @@ impl Receiver<'_> {
             heard.new }
         ensures noise { noise.new ≡ noise.old }
     {
-        self.states.tell();
-        self.faulty.tell();
+        self.states.facts();
+        self.faulty.facts();
         for i in 0..self.faulty.len() {
             let u = self.faulty.at(i);
             let out = &mut heard[u as usize];

@@ -29,8 +29,8 @@ pub fn eras_are_runs()
     ensures { ErasAreRuns }
 {}
 
-/// Where an era goes on to the machine's bound, it has a first locked configuration, at the bound
-/// or before.
+/// If an era goes on to the machine's bound, it has a first locked configuration, at the bound or
+/// before.
 pub fn eras_lock()
     ensures { ErasLock }
 {}
@@ -52,8 +52,8 @@ pub fn lock_test_is_exact()
     ensures { LockTestIsExact }
 {}
 
-/// The first configuration of an era that passes the test is the first locked one of it, and where
-/// none passes none is locked.
+/// The first configuration of an era that passes the test is the first locked one of it, and if
+/// none passes, none is locked.
 pub fn firsts_are_locked()
     ensures { FirstsAreLocked }
 {}

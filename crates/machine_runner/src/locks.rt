@@ -1,9 +1,9 @@
-ghost use Rattle.std.specs.Prelude.{◌≡◌, ◌<◌, None, length};
+ghost use Rattle.std.specs.Prelude.{◌≡◌, ◌<◌, length};
 ghost use Rattle.std.specs.List.{list_all};
 ghost use Rattle.sync_types.specs.States.{register_at};
 ghost use Rattle.construction.specs.Steps.{state_of};
-ghost use Rattle.machine_runner.specs.Locks.{are_locked, correct_registers, first_value, first_of};
-ghost use Rattle.machine_runner.specs.Locks.{is_locked, is_locked_at};
+ghost use Rattle.machine_runner.specs.Locks.{are_locked, correct_registers, first_value};
+ghost use Rattle.machine_runner.specs.Locks.{is_locked, is_locked_at, is_locked_by};
 
 use machines::Machine;
 use state_codec::Packed;
@@ -15,7 +15,7 @@ const ZERO: Reg = Reg {
     d: false,
 };
 
-/// A register of a state, which is zero where the state has none at that place.
+/// A register of a state, which is zero if the state has none at that place.
 fn register_at(register: usize, state: &NodeState) -> Reg
     ensures { result ≡ register_at register state.now }
 {
@@ -52,7 +52,7 @@ impl Registers<'_> {
         register_at(self.register, self.config.state(v))
     }
 
-    /// The value of the first one, or 0 where that is infinite or no node is correct.
+    /// The value of the first one, or 0 if that is infinite or no node is correct.
     fn first_value(&self) -> u64
         ensures { result ≡ first_value (correct_registers self.now.register
             self.now.faulty.now.nodes self.now.faulty.now.ids self.now.config.now.current) }
@@ -88,15 +88,13 @@ impl Registers<'_> {
     }
 }
 
-/// Whether a configuration of a machine's nodes is locked: the register that tells it is the same,
-/// finite and marked in all correct nodes. Where there is no such register each one is.
-pub fn is_locked<M: Machine>(machine: &M, faulty: &FaultSet, config: &Packed) -> bool
-    requires nodes { faulty.now.nodes ≡ (M.machine machine.now).nodes }
-    requires size { length config.now.current ≡ faulty.now.nodes }
-    ensures { result
-        ≡ is_locked (M.machine machine.now) faulty.now.ids config.now.current }
+/// Whether a configuration is locked by a register: that register is the same, finite and marked in
+/// all correct nodes. Without a register each one is.
+pub fn is_locked_by(lock: Option<usize>, faulty: &FaultSet, config: &Packed) -> bool
+    requires { length config.now.current ≡ faulty.now.nodes }
+    ensures { result ≡ is_locked_by lock faulty.now.nodes faulty.now.ids config.now.current }
 {
-    match machine.lock() {
+    match lock {
         None => true,
         Some(register) => Registers {
             register,
@@ -107,13 +105,12 @@ pub fn is_locked<M: Machine>(machine: &M, faulty: &FaultSet, config: &Packed) ->
     }
 }
 
-/// The first locked configuration so far: that which was known before, or else this one, of that
-/// number, if it is locked.
-pub fn locked_so_far(known: Option<u64>, locked: bool, at: u64) -> Option<u64>
-    ensures { result ≡ first_of known locked at }
+/// Whether a configuration of a machine's nodes is locked: by the register that tells it.
+pub fn is_locked<M: Machine>(machine: &M, faulty: &FaultSet, config: &Packed) -> bool
+    requires nodes { faulty.now.nodes ≡ (M.machine machine.now).nodes }
+    requires size { length config.now.current ≡ faulty.now.nodes }
+    ensures { result
+        ≡ is_locked (M.machine machine.now) faulty.now.ids config.now.current }
 {
-    match known {
-        Some(_) => known,
-        None => { if locked { Some(at) } else { None } }
-    }
+    is_locked_by(machine.lock(), faulty, config)
 }

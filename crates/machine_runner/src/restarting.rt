@@ -1,31 +1,10 @@
-ghost use Rattle.std.specs.Prelude.{◌≡◌, ◌+◌, ◌∷◌, None, length, replicate};
-ghost use Rattle.machine_runner.specs.Locks.{is_locked, first_of};
+ghost use Rattle.std.specs.Prelude.{◌≡◌};
 
-use crate::locks::{is_locked, locked_so_far};
+use crate::era_locks::begin_locks;
+use crate::locks::is_locked;
 use crate::runners::Runner;
 use crate::stepping::start_all;
-use adversary_script::Script;
 use machines::Machine;
-use state_codec::Packed;
-
-/// Notes of each era the first locked configuration so far, where configuration 0 is that one.
-fn begin_locks<M: Machine>(
-    machine: &M,
-    script: &Script,
-    config: &Packed,
-    locks: &mut Vec<Option<u64>>,
-)
-    requires nodes { script.now.nodes ≡ (M.machine machine.now).nodes }
-    requires size { length config.now.current ≡ script.now.nodes }
-    requires locks { length locks.old.items ≡ length script.now.eras + 1 }
-    ensures { locks.new.items ≡ first_of None (is_locked
-        (M.machine machine.now) script.now.faulty config.now.current) 0
-        ∷ replicate (length script.now.eras) None }
-{
-    let locked = is_locked(machine, script.faulty(), config);
-    locks.fill(None);
-    locks[0] = locked_so_far(None, locked, 0);
-}
 
 impl<'a, M: Machine> Runner<'a, M> {
     ghost use Rattle.machine_runner.specs.Runners.{begun};
@@ -35,12 +14,18 @@ impl<'a, M: Machine> Runner<'a, M> {
     pub fn restart(&mut self, key: [u8; 32])
         ensures { self.new ≡ begun self.old.machine (record self.old.script { key = key }) }
     {
-        self.states.tell();
+        self.states.facts();
         self.script.set_key(key);
         self.room.noise.restart(key);
-        start_all(&self.script, &mut self.room, &mut self.states);
+        start_all(
+            &self.script,
+            &mut self.room.noise,
+            &mut self.room.out,
+            &mut self.states,
+        );
         self.at = 0;
         self.era = 0;
-        begin_locks(self.machine, &self.script, &self.states, &mut self.locks);
+        let locked = is_locked(self.machine, self.script.faulty(), &self.states);
+        begin_locks(&self.script, locked, &mut self.locks);
     }
 }

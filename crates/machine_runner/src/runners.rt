@@ -1,10 +1,10 @@
-ghost use Rattle.std.specs.Prelude.{◌≡◌, ◌∷◌, None, length, replicate, IfOk};
-ghost use Rattle.machine_runner.specs.Locks.{is_locked, first_of};
+ghost use Rattle.std.specs.Prelude.{◌≡◌, IfOk};
 ghost use Rattle.machine_runner.specs.Rooms.{IsReady};
 
+use crate::era_locks::{first_locks, note_lock};
 use crate::hearing::{Receiver, lay};
-use crate::locks::{is_locked, locked_so_far};
-use crate::stepping::{Room, Round, beginning_in, start_all};
+use crate::locks::is_locked;
+use crate::stepping::{Round, RoundBuffers, beginning_in, start_all};
 use adversary_script::{Noise, Script};
 use counter_core::Work;
 use machines::Machine;
@@ -17,7 +17,7 @@ use sync_types::{FaultSet, NoMemory, NodeState};
 pub struct Runner<'a, M: Machine> {
     pub(crate) machine: &'a M,
     pub(crate) script: Script,
-    pub(crate) room: Room,
+    pub(crate) room: RoundBuffers,
     pub(crate) states: Packed,
     pub(crate) at: u64,
     // The era of `at`.
@@ -26,7 +26,7 @@ pub struct Runner<'a, M: Machine> {
     pub(crate) locks: Vec<Option<u64>>,
 }
 
-// Written out, so that what lets go of one calls this, and no more.
+// Written out, so that code that drops one has a single call.
 impl<'a, M: Machine> Drop for Runner<'a, M> {
     fn drop(self) {
         let Runner {
@@ -62,37 +62,22 @@ impl<'a, M: Machine> Model for Runner<'a, M> {
 }
 
 /// What rounds need beside two configurations, whose states have that shape.
-pub fn room_for(alloc: Global, script: &Script, shape: &StateShape) -> Result<Room, NoMemory>
+pub fn room_for(
+    alloc: Global,
+    script: &Script,
+    shape: &StateShape,
+) -> Result<RoundBuffers, NoMemory>
     requires { shape.now ≡ script.now.shape }
     ensures { IfOk result (IsReady script.now) }
 {
     let nodes = script.faulty().nodes();
     let depth = shape.depth();
-    Ok(Room {
+    Ok(RoundBuffers {
         noise: Noise::with_room(alloc, script)?,
         heard: NodeState::zeros(alloc, nodes, depth)?,
         work: Work::new(alloc, nodes)?,
         out: NodeState::zero(alloc, depth)?,
     })
-}
-
-/// Of each era the first locked configuration so far, where configuration 0 is that one.
-pub fn first_locks<M: Machine>(
-    alloc: Global,
-    machine: &M,
-    script: &Script,
-    config: &Packed,
-) -> Result<Vec<Option<u64>>, NoMemory>
-    requires nodes { script.now.nodes ≡ (M.machine machine.now).nodes }
-    requires size { length config.now.current ≡ script.now.nodes }
-    ensures { IfOk result (λ locks. locks.items ≡ first_of None (is_locked
-        (M.machine machine.now) script.now.faulty config.now.current) 0
-        ∷ replicate (length script.now.eras) None) }
-{
-    let mut locks = vec![in alloc; None; script.eras()]?;
-    let locked = is_locked(machine, script.faulty(), config);
-    locks[0] = locked_so_far(None, locked, 0);
-    Ok(locks)
 }
 
 impl<'a, M: Machine> Runner<'a, M> {
@@ -119,13 +104,14 @@ impl<'a, M: Machine> Runner<'a, M> {
         requires shape { script.shape ≡ shape }
         ensures { IfOk result (λ runner. runner ≡ begun machine.now script) }
     {
-        shape.tell();
-        machine.tell();
+        shape.facts();
+        machine.facts();
         let _rounds = script.rounds();
         let mut room = room_for(alloc, &script, &shape)?;
         let mut states = Packed::new(alloc, shape, script.faulty().nodes())?;
-        start_all(&script, &mut room, &mut states);
-        let locks = first_locks(alloc, machine, &script, &states)?;
+        start_all(&script, &mut room.noise, &mut room.out, &mut states);
+        let locked = is_locked(machine, script.faulty(), &states);
+        let locks = first_locks(alloc, &script, locked)?;
         Ok(Runner {
             machine,
             script,
@@ -138,7 +124,7 @@ impl<'a, M: Machine> Runner<'a, M> {
     }
 
     /// Makes the next configuration: every node steps, the faulty ones too, from what it hears, and
-    /// where an era begins nodes are put into the states that it gives them. It takes no memory and
+    /// if an era begins, nodes are put into the states that it gives them. It takes no memory and
     /// cannot fail. There is a round left to play.
     pub fn round(&mut self)
         requires { self.old.at < self.old.script.rounds }
@@ -156,17 +142,17 @@ impl<'a, M: Machine> Runner<'a, M> {
         self.at += 1;
         self.era = era;
         let locked = is_locked(self.machine, self.script.era_faulty(era), &self.states);
-        self.locks[era] = locked_so_far(self.locks[era], locked, self.at);
+        note_lock(era, locked, self.at, &mut self.locks);
     }
 
     /// Tells a caller's proof that the machine is sound, that the script was read for it, and that
     /// no more rounds were played than there are. It does nothing when it runs.
-    pub fn tell(&self)
+    pub fn facts(&self)
         ensures sound { IsSound (M.machine self.now.machine) }
         ensures read { IsReadFor (M.machine self.now.machine) self.now.script }
         ensures within { self.now.at ≤ self.now.script.rounds }
     {
-        self.machine.tell();
+        self.machine.facts();
     }
 
     /// How many rounds were played.
@@ -188,7 +174,7 @@ impl<'a, M: Machine> Runner<'a, M> {
         ensures value { result ≡ (M.machine self.now.machine).nodes }
         ensures most { result ≤ 256 }
     {
-        self.machine.tell();
+        self.machine.facts();
         self.machine.nodes()
     }
 
@@ -220,7 +206,7 @@ impl<'a, M: Machine> Runner<'a, M> {
         ensures states { config.new ≡ states_of M.machine self.now }
         ensures room { HasRoom self.now.script config.new }
     {
-        self.states.tell();
+        self.states.facts();
         lay(&self.states, config);
     }
 
@@ -235,7 +221,7 @@ impl<'a, M: Machine> Runner<'a, M> {
         ensures room { HasRoom self.old.script heard.new }
         ensures same { self.new ≡ self.old }
     {
-        self.states.tell();
+        self.states.facts();
         lay(&self.states, heard);
         let receiver = Receiver {
             script: &self.script,
@@ -254,8 +240,8 @@ impl<'a, M: Machine> Runner<'a, M> {
             (state_of (states_of M.machine self.now) v) }
         ensures below { result < (M.machine self.now.machine).modulus }
     {
-        self.machine.tell();
-        self.states.tell();
+        self.machine.facts();
+        self.states.facts();
         self.machine.output(v, self.states.state(v))
     }
 

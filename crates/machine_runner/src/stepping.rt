@@ -18,7 +18,7 @@ use sync_types::{FaultSet, NodeState};
 
 /// What rounds need beside two configurations.
 #[derive(Drop)]
-pub struct Room {
+pub struct RoundBuffers {
     /// The noise of the script.
     pub noise: Noise,
     /// What a node hears, by place.
@@ -38,7 +38,7 @@ pub struct Round<'a> {
     pub faulty: &'a FaultSet,
     /// Its number.
     pub t: u64,
-    /// The further era that begins behind it, where one does.
+    /// The further era that begins after it, if one does.
     pub begins: Option<usize>,
     ghost liars: { faulty.now
         ≡ record { nodes = script.now.nodes; ids = faulty_at script.now t } },
@@ -46,7 +46,7 @@ pub struct Round<'a> {
     ghost behind: { BeginsAt script.now (t + 1) begins } by { is_prop script.now (t + 1) begins },
 }
 
-/// The further era that begins with configuration `t`, which is of that era, where one does.
+/// The further era that begins with configuration `t`, which is of that era, if one does.
 pub fn beginning_in(script: &Script, era: usize, t: u64) -> Option<usize>
     requires { era ≡ era_of script.now t }
     ensures { BeginsAt script.now t result }
@@ -59,28 +59,42 @@ pub fn beginning_in(script: &Script, era: usize, t: u64) -> Option<usize>
     }
 }
 
-/// Puts every node into the state in which it starts.
-pub fn start_all(script: &Script, room: &mut Room, states: &mut Packed)
+/// Puts every node into the state in which it starts. `out` has room for a state.
+pub fn start_all(script: &Script, noise: &mut Noise, out: &mut NodeState, states: &mut Packed)
     requires config { IsConfiguration script.now states.old }
-    requires noise { room.old.noise ≡ script.now.key }
-    requires out { length room.old.out.registers ≡ script.now.shape.depth }
+    requires noise { noise.old ≡ script.now.key }
+    requires out { length out.old.registers ≡ script.now.shape.depth }
     ensures shape { states.new.shape ≡ states.old.shape }
     ensures states { states.new.current ≡ starts script.now }
     ensures size { length states.new.current ≡ script.now.nodes }
-    ensures noise { room.new.noise ≡ script.now.key }
-    ensures out { length room.new.out.registers ≡ script.now.shape.depth }
-    ensures same { room.new ≡ record room.old { noise = room.new.noise; out = room.new.out } }
+    ensures noise { noise.new ≡ script.now.key }
+    ensures out { length out.new.registers ≡ script.now.shape.depth }
 {
-    states.tell();
+    states.facts();
     for v in 0..script.faulty().nodes() {
-        script.start_into(&mut room.noise, v, &mut room.out);
-        states.put(v, &room.out);
+        script.start_into(noise, v, out);
+        states.put(v, out);
     }
     states.flip();
 }
 
+/// Puts node `v` into the state that it is put into at configuration `t`, with which that further
+/// era begins, if one does. `out` has its state, and room for another one.
+pub fn put_hit(script: &Script, t: u64, begins: Option<usize>, v: u32, out: &mut NodeState)
+    requires begins { BeginsAt script.now t begins }
+    requires depth { length out.old.registers ≡ script.now.shape.depth }
+    ensures state { out.new ≡ unwrap_or (hit_at script.now t v) out.old }
+    ensures range { InRange (fields_at script.now.shape v) out.old
+        → InRange (fields_at script.now.shape v) out.new }
+{
+    let _rounds = script.rounds();
+    if let Some(era) = begins {
+        script.hit_into(era, v, out);
+    }
+}
+
 impl Round<'_> {
-    /// Puts node `v` into the state that it is put into where an era begins behind the round.
+    /// Puts node `v` into the state that it is put into if an era begins after the round.
     pub fn put_at(&self, v: u32, out: &mut NodeState)
         requires { length out.old.registers ≡ self.now.script.now.shape.depth }
         ensures state { out.new
@@ -89,13 +103,11 @@ impl Round<'_> {
             → InRange (fields_at self.now.script.now.shape v) out.new }
     {
         let _rounds = self.script.rounds();
-        if let Some(era) = self.begins {
-            self.script.hit_into(era, v, out);
-        }
+        put_hit(self.script, self.t + 1, self.begins, v, out);
     }
 
     /// The step of node `v`: its new state is written into the room.
-    fn step<M: Machine>(&self, machine: &M, v: u32, room: &mut Room, states: &Packed)
+    fn step<M: Machine>(&self, machine: &M, v: u32, room: &mut RoundBuffers, states: &Packed)
         requires read { IsReadFor (M.machine machine.now) self.now.script.now }
         requires node { v < self.now.script.now.nodes }
         requires config { IsConfiguration self.now.script.now states.now }
@@ -109,8 +121,8 @@ impl Round<'_> {
         ensures honest { AreHonest self.now.script.now self.now.t states.now.current
             room.new.heard.items }
     {
-        machine.tell();
-        states.tell();
+        machine.facts();
+        states.facts();
         let receiver = Receiver {
             script: self.script,
             faulty: self.faulty,
@@ -124,9 +136,9 @@ impl Round<'_> {
         self.put_at(v, &mut room.out);
     }
 
-    /// The steps of all nodes, from the current states to the next ones. Where an era begins behind
-    /// the round, nodes are put into the states that it gives them.
-    pub fn step_all<M: Machine>(&self, machine: &M, room: &mut Room, states: &mut Packed)
+    /// The steps of all nodes, from the current states to the next ones. If an era begins after the
+    /// round, nodes are put into the states that it gives them.
+    pub fn step_all<M: Machine>(&self, machine: &M, room: &mut RoundBuffers, states: &mut Packed)
         requires read { IsReadFor (M.machine machine.now) self.now.script.now }
         requires config { IsConfiguration self.now.script.now states.old }
         requires room { IsReady self.now.script.now room.old }
@@ -136,7 +148,7 @@ impl Round<'_> {
         } }
         ensures room { IsReady self.now.script.now room.new }
     {
-        states.tell();
+        states.facts();
         lay(states, &mut room.heard);
         for v in 0..states.nodes() {
             self.step(machine, v, room, &*states);

@@ -1,5 +1,5 @@
 -- What holds of a sound machine: what a state shows is below the modulus; a step gives a state of
--- its node and does not hang on further registers; it settles, locks at its bound, and stays
+-- its node and does not depend on further registers; it settles, locks at its bound, and stays
 -- locked.
 use Rattle.std.specs.Prelude.{◌≡◌, ℕ, ◌*◌, ◌^◌, ◌<◌, ◌≤◌, List, length, map}
 use Rattle.sync_types.specs.States.{State}

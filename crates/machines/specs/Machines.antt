@@ -1,4 +1,4 @@
--- Rounds and runs of any counter whose nodes have states, with faulty nodes, and that its outputs
+-- Rounds and runs of any counter whose nodes have states, with faulty nodes, and how its outputs
 -- come to count.
 use Rattle.std.specs.Prelude.{◌≡◌, ⊤, ℕ, ◌+◌, ◌%◌, ◌<◌, ◌≤◌, Option, Some, None, List, [], length}
 use Rattle.std.specs.Prelude.{false, All, slice_index_or}
@@ -11,7 +11,7 @@ use Rattle.state_codec.specs.Ranges.{InRange}
 
 -- A counter: N nodes, of which F may be faulty, count modulo C from T on, and a state has so many
 -- registers. Of each node: the fields that its states have, what a state shows, and the step from
--- what it hears of all nodes. One register tells whether a configuration is locked; where there is
+-- what it hears of all nodes. One register tells whether a configuration is locked; if there is
 -- none, each is.
 pub record Machine : Type 0 where
   pub nodes : ℕ
@@ -24,7 +24,7 @@ pub record Machine : Type 0 where
   pub step : (v : ℕ) → List State → State
   pub lock : Option ℕ
 
--- the register, where there is one, is the same, finite and marked, in all correct nodes
+-- the register, if there is one, is the same, finite and marked, in all correct nodes
 abbrev pub LockedBy : (lock : Option ℕ) (nodes : ℕ) (faulty : List ℕ) (config : List State)
     → Type 0
 LockedBy None nodes faulty config = ⊤

@@ -24,7 +24,7 @@ pub trait Machine: Drop {
     fn faults(&self) -> u32
         ensures { result ≡ (machine self.now).faults };
 
-    /// By what it counts, 2 to 2^40.
+    /// The modulus that it counts by, 2 to 2^40.
     fn modulus(&self) -> u64
         ensures { result ≡ (machine self.now).modulus };
 
@@ -36,12 +36,12 @@ pub trait Machine: Drop {
     fn depth(&self) -> usize
         ensures { result ≡ (machine self.now).depth };
 
-    /// The register that tells whether a configuration is locked; None where each is.
+    /// The register that tells whether a configuration is locked; None if each is.
     fn lock(&self) -> Option<usize>
         ensures { result ≡ (machine self.now).lock };
 
     /// Tells a caller's proof that the machine is sound. It does nothing when it runs.
-    fn tell(&self)
+    fn facts(&self)
         ensures { IsSound (machine self.now) };
 
     /// How many bytes a state of node `v` has, at most 128.
@@ -57,14 +57,14 @@ pub trait Machine: Drop {
         requires length { length out.old ≡ bytes_in ((machine self.now).fields v) }
         ensures { out.new ≡ written ((machine self.now).fields v) state.now };
 
-    /// Reads a state of node `v` from any bytes. Bytes that are not just so many as a state of the
-    /// node has stand for the zero state.
+    /// Reads a state of node `v` from any bytes. Bytes whose number is not that of a state of the
+    /// node stand for the zero state.
     fn read_state(&self, v: u32, bytes: &[u8], out: &mut NodeState)
         requires node { v < (machine self.now).nodes }
         requires depth { length out.old.registers ≡ (machine self.now).depth }
         ensures { out.new ≡ read ((machine self.now).fields v) bytes.now };
 
-    /// Reads a state of node `v` from the front of bytes; eight bytes more stand after it.
+    /// Reads a state of node `v` from the beginning of bytes; eight bytes more stand after it.
     fn read_front(&self, v: u32, bytes: &[u8], out: &mut NodeState)
         requires node { v < (machine self.now).nodes }
         requires within { bytes_in ((machine self.now).fields v) + 8 ≤ length bytes.now }

@@ -1,4 +1,4 @@
--- What one place less of a number does to the counts.
+-- What one place fewer of a number does to the counts.
 use Rattle.std.proofs.Common.{◌≡◌, ℕ, zero, suc, ◌+◌, ◌<◌, ◌≤◌, All, eqb, if◌then◌else◌, List, []}
 use Rattle.std.proofs.Common.{◌∷◌, length, set, sym, ap, subst, ⊎_elim, arith}
 use Rattle.std.specs.List.{remove}

@@ -39,7 +39,7 @@ module _ (capacity : ℕ) (values : List (Option ℕ)) (counts : List Count)
       → majority_of values ≡ Some (value_at counts i)
   majority_found i lt more = majority_is values (value_at counts i) (omega (arith, places_at i lt))
 
-  -- where no number has them, there is no majority
+  -- if no number has them, there is no majority
   pub majority_absent :
       ((i : ℕ) → i < length counts → (count_at counts i).places ≤ length values / 2)
       → majority_of values ≡ None
@@ -72,7 +72,7 @@ module _ (capacity : ℕ) (values : List (Option ℕ)) (counts : List Count)
       least_from f values (value_at counts i) (omega (arith, places_at i lt))
       (below_count f i lt before)
 
-  -- where no number has them, there is no least
+  -- if no number has them, there is no least
   pub least_absent : (f : ℕ) → ((i : ℕ) → i < length counts → (count_at counts i).places ≤ f)
       → least_above f values ≡ None
   least_absent f few = no_least f values (each_number (λ n. n ≤ f) (omega arith) few)
@@ -89,7 +89,7 @@ module _ (capacity : ℕ) (values : List (Option ℕ)) (counts : List Count)
   majority_known more i lt h =
       majority_stays more values (value_at counts i) (omega (arith, places_at i lt))
 
-  -- where none can come to them, there is none
+  -- if none can come to them, there is none
   pub no_majority_known : (more most : ℕ)
       → ((i : ℕ) → i < length counts → (count_at counts i).places ≤ most)
       → most + more ≤ (length values + more) / 2 → MajorityStays more values None
@@ -98,7 +98,7 @@ module _ (capacity : ℕ) (values : List (Option ℕ)) (counts : List Count)
       (each_number (λ n. 2 * (n + more) ≤ length values + more) (omega arith)
       (λ i lt. omega (arith, few i lt)))
 
-  -- where no count before that of the least can come above f, the least stays
+  -- if no count before that of the least can come above f, the least stays
   pub least_known : (f more i : ℕ) → more ≤ f → i < length counts → f < (count_at counts i).places
       → ((k : ℕ) → k < i → (count_at counts k).places ≤ f - more)
       → LeastStays f more values (least_above f values)
@@ -109,7 +109,7 @@ module _ (capacity : ℕ) (values : List (Option ℕ)) (counts : List Count)
       (subst (λ (o : Option ℕ). (z : ℕ) → IsBelow z o → count_of values (Some z) + more ≤ f)
       (sym is) (λ z less. omega (arith, below_count (f - more) i lt before z less)))
 
-  -- the same where there is no least
+  -- the same if there is no least
   pub no_least_known : (f more : ℕ) → more ≤ f
       → ((i : ℕ) → i < length counts → (count_at counts i).places ≤ f - more)
       → LeastStays f more values (least_above f values)

@@ -31,7 +31,7 @@ impl<G: Ledger> Steps<G> {
         Steps { book, share }
     }
 
-    /// One step more.
+    /// One more step.
     pub(crate) fn tick(&mut self)
         ensures { self.new ≡ self.old + 1 }
     {

@@ -42,7 +42,7 @@ pub struct Tally {
     infinities: usize,
 }
 
-// Written out, so that what lets go of one calls this, and no more.
+// Written out, so that code that drops one has a single call.
 impl Drop for Tally {
     fn drop(self) {
         let Tally {
@@ -152,7 +152,7 @@ impl Tally {
         }
     }
 
-    /// Keeps the first `len` values, and forgets the others, in a turn for each of these.
+    /// Keeps the first `len` values, and forgets the others one by one.
     pub fn cut(&mut self, len: usize)
         requires { len ≤ length self.old.values }
         ensures { self.new ≡ record self.old { values = take len self.old.values } }
@@ -162,8 +162,8 @@ impl Tally {
         }
     }
 
-    /// The number that more than half of all places hold, those of infinity counted, or `None`
-    /// where there is none.
+    /// The number that more than half of all places hold, those of infinity counted, or `None` if
+    /// there is none.
     pub fn majority(&self) -> Option<u64>
         ensures { result ≡ majority_of self.now.values }
     {
@@ -175,8 +175,8 @@ impl Tally {
         None
     }
 
-    /// The majority once `more` values have come, where it is the same whatever they are. There
-    /// is room for them.
+    /// The majority once `more` values have come, if it is the same whatever they are. There is
+    /// room for them.
     pub fn majority_with(&self, more: usize) -> Outlook
         requires { length self.now.values + more ≤ self.now.capacity }
         ensures { IsOutlook more self.now.values result }
@@ -199,7 +199,7 @@ impl Tally {
     }
 
     /// Whether the least number that more than `f` places hold is sure to stay the same, or to be
-    /// absent, once `more` values have come. Where the answer is false, nothing is known.
+    /// absent, once `more` values have come. If the answer is false, nothing is known.
     pub fn is_least_fixed(&self, f: usize, more: usize) -> bool
         ensures { result ≡ true
             → LeastStays f more self.now.values (least_above f self.now.values) }
@@ -228,7 +228,7 @@ impl Tally {
         }
     }
 
-    /// The least number that more than `f` places hold, or `None` where there is none.
+    /// The least number that more than `f` places hold, or `None` if there is none.
     pub fn least_above(&self, f: usize) -> Option<u64>
         ensures { result ≡ least_above f self.now.values }
     {

@@ -1,4 +1,4 @@
--- A node over packets makes such steps as the calls answer, each behind one packet.
+-- A node over packets makes such steps as the calls answer, each after one packet.
 use Rattle.std.proofs.Common.{◌≡◌, ℕ, zero, suc, ◌+◌, ◌<◌, List, [], ◌∷◌, length, take, get_or}
 use Rattle.std.proofs.Common.{Result, Ok, refl, sym, ap, ◌∙◌, append-nil, arith}
 use Rattle.std.proofs.lemmas.Bool.{eq-eqb}
@@ -51,7 +51,7 @@ module _ (text : List ℕ) (counter : AnyMachine) (is : counter_answer text ≡ 
       → step_in v state packets m ≡ steps_over v state m (packets_for m packets)
   tested v state packets long = rw (eq-eqb (length state) (bytes_in (m.fields v)) long) refl
 
-  -- a call behind one packet
+  -- a call after one packet
   module _ (v : ℕ) (node : v < m.nodes) (s : State) (begun : IsState m v s)
       (packet : List (List ℕ)) (full : length packet ≡ m.nodes) where
     abbrev bytes_of : State → List ℕ
@@ -88,7 +88,7 @@ module _ (text : List ℕ) (counter : AnyMachine) (is : counter_answer text ≡ 
     pub packet_full : length packet ≡ m.nodes
     packet_full = full_at m.nodes packets full t early
 
-    -- a caller is told its cells
+    -- a caller is given its cells
     pub cell_is : (u : ℕ) → cell_in m (packet_text packet) u ≡ get_or packet u []
     cell_is u =
         ap (λ (p : Packets). get_or (get_or p.cells 0 []) u [])

@@ -18,7 +18,7 @@ use Rattle.plan_machine.proofs.Sound.{accepted_are_sound}
 use Rattle.machines.specs.Laws.{IsSound}
 use Rattle.pulse_plan.proofs.Sound.{accepted_are_sound as pulses_sound}
 use Rattle.pulse_plan.specs.Plans.{PulseNumbers, IsAccepted as IsAcceptedPulses}
-use Rattle.pulse_machine.proofs.Bits.{few_bits as pulses_few_bits}
+use Rattle.pulse_plan.proofs.FewBits.{few_bits as pulses_few_bits}
 use Rattle.pulse_texts.specs.declared.premises.LinePremise.{LinePremise}
 use Rattle.pulse_texts.proofs.Rewritten.{texts_are_rewritten}
 use Rattle.pulse_texts.specs.PulsesPart.{pulses_of, whole_pulses_of, alone, unless_followed}
@@ -26,7 +26,6 @@ use Rattle.node_calls.specs.declared.any_machines.AnyMachine.{AnyMachine}
 use Rattle.node_calls.specs.declared.any_machines.AnyMachine.TheVariants.{Boosting, Pulses}
 use Rattle.node_calls.specs.Machines.{machine_of}
 use Rattle.node_calls.specs.declared.errors.CallError.{CallError}
-use Rattle.node_calls.specs.Errors.{pulses_refused_at}
 use Rattle.node_calls.specs.Counters.{and_then, plan_or_refused, plan_answer, plan_counter}
 use Rattle.node_calls.specs.Counters.{is_first, counter_by, counter_answer}
 
@@ -141,9 +140,3 @@ states_fit text counter is v node =
 pub of_pulses : (text : List ℕ) (plan : PulseNumbers) → whole_pulses_of text ≡ Ok plan
     → counter_answer text ≡ Ok (Pulses plan)
 of_pulses text plan is = ap (counter_by (first_unskipped 1 (lines_of text)) text) is
-
-pub of_refused : (text : List ℕ) (at : At LinePremise) → whole_pulses_of text ≡ Err at
-    → counter_answer text
-    ≡ cond (is_first (first_unskipped 1 (lines_of text)) at.line) (plan_counter text)
-    (Err (pulses_refused_at at))
-of_refused text at is = ap (counter_by (first_unskipped 1 (lines_of text)) text) is

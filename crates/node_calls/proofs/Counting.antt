@@ -31,7 +31,7 @@ use Rattle.node_calls.specs.Counting.{NodesCount, LossyNodesCount}
 use Rattle.node_calls.proofs.Counters.{sound_of}
 use Rattle.node_calls.proofs.Packets.{as_many, only_one}
 
--- of what was answered: that the test held, and what stands behind it
+-- of what was answered: that the test held, and what stands after it
 behind_test : {V : Type 0} (test : Bool) (answer : Result V CallError) (e : CallError) (v : V)
     → cond test answer (Err e) ≡ Ok v → (test ≡ true) × (answer ≡ Ok v)
 behind_test true answer e v is = (refl, is)
@@ -63,7 +63,7 @@ module _ (text : List ℕ) (counter : AnyMachine) (is : counter_answer text ≡ 
   output_is state long =
       rw (is, lt-ltb v (m.nodes) node, eq-eqb (length state) (bytes_in fields) long) refl
 
-  -- the new bytes, behind one packet
+  -- the new bytes, after one packet
   new_bytes : (state packets new : List ℕ) → step_answer text v state packets ≡ Ok (1, new)
       → new ≡ written fields
       (state_after m v (read fields state) (get_or (packets_for m packets).cells 0 []))
@@ -123,7 +123,7 @@ module _ (text : List ℕ) (counter : AnyMachine) (is : counter_answer text ≡ 
       → output_answer text v (bytes t) ≡ Ok (k.shows v (state t))
   caller_shows t early = output_is text counter is v node (bytes t) (long t early)
 
--- rounds in which the correct nodes step, whatever they are told
+-- rounds in which the correct nodes step, whatever they are given
 pub record Stepping (text : List ℕ) (m : Machine) (faulty : List ℕ) (count : ℕ)
     (bytes packets : ℕ → ℕ → List ℕ) : Type 0 where
   pub long : (v : ℕ) → IsCorrect m faulty v → length (bytes 0 v) ≡ bytes_in (m.fields v)

@@ -92,7 +92,7 @@ module _ (text : List ℕ) (counter : AnyMachine) (is : counter_answer text ≡ 
           All-from_get_or FitsCell (get_or (nodes.packets v) t []) []
           (λ u ult. fits t u lt (omega (arith, ult, size)))
 
-      -- where all cells fit, its packets are bytes
+      -- if all cells fit, its packets are bytes
       bytes_by : ((t u : ℕ) → t < length (nodes.packets v) → u < m.nodes
           → FitsCell (cell_given nodes t v u)) → (a : Option ℕ) → a ≡ at
           → IsGivenBytes rounds (member_of a v)

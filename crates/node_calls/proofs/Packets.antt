@@ -3,7 +3,7 @@ use Rattle.std.proofs.Common.{◌≡◌, ℕ, zero, suc, ◌+◌, List, [], ◌�
 use Rattle.std.proofs.Common.{Err, refl, arith}
 use Rattle.node_stepper.specs.Packets.{whole, cut, Packets, cells_of, onto_packet, packets_of}
 
--- packets that end behind packet n are so many from the first one on
+-- packets that end after packet n are so many from the first one on
 abbrev EndAt : (from n : ℕ) → Packets → Type 0
 EndAt from n packets = packets.ending ≡ whole n → from + length packets.cells ≡ n
 

@@ -1,4 +1,4 @@
--- What calls of a node answer. Each test comes behind those before it.
+-- What calls of a node answer. Each test comes after those before it.
 use Rattle.std.specs.Prelude.{ℕ, ◌==◌, nat_lt, if◌then◌else◌, List, length, Result, Ok, Err}
 use Rattle.state_codec.specs.Shapes.{bytes_in}
 use Rattle.state_codec.specs.Reading.{read}
@@ -46,12 +46,12 @@ by_ending new (whole count) = Ok (count, new)
 by_ending new (cut packet sender) = Err (error.Cut packet sender)
 by_ending new beyond = Err error.TooLong
 
--- the bytes of the node's state behind packets
+-- the bytes of the node's state after packets
 abbrev pub bytes_behind : Machine → (id : ℕ) → (state : List ℕ) → List (List (List ℕ)) → List ℕ
 bytes_behind m id state packets =
     written (m.fields id) (state_behind m id (read (m.fields id) state) packets)
 
--- the node behind each of its packets
+-- the node after each of its packets
 abbrev pub steps_over : (id : ℕ) → (state : List ℕ) → Machine → Packets
     → Result (ℕ × List ℕ) CallError
 steps_over id state m packets =

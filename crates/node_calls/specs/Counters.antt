@@ -17,7 +17,7 @@ use Rattle.node_calls.specs.declared.any_machines.AnyMachine.TheVariants.{Boosti
 use Rattle.node_calls.specs.declared.errors.CallError.{CallError}
 use Rattle.node_calls.specs.Errors.{refused_at, pulses_refused_at}
 
--- what follows an answer, where it is no error
+-- what follows an answer, if it is no error
 abbrev pub and_then : {A B : Type 0} → Result A CallError → (A → Result B CallError)
     → Result B CallError
 and_then (Ok value) next = next value
@@ -40,8 +40,8 @@ abbrev pub is_first : Option ℕ → (line : ℕ) → Bool
 is_first None line = true
 is_first (Some first) line = first == line
 
--- the counter of a text by what it is as a pulse plan: where its first line that counts is not that
--- of a pulse plan, the text is read as a plan
+-- the counter of a text by what it is as a pulse plan: if its first line that counts is not that of
+-- a pulse plan, the text is read as a plan
 abbrev pub counter_by : (first : Option ℕ) → (text : List ℕ)
     → Result PulseNumbers (At LinePremise) → Result AnyMachine CallError
 counter_by first text (Ok plan) = Ok (Pulses plan)

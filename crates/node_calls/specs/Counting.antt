@@ -23,10 +23,10 @@ pub record InRounds (text : List ℕ) (m : Machine) (faulty : List ℕ) (count :
     (bytes packets : ℕ → ℕ → List ℕ) : Type 0 where
   -- each begins with as many bytes as its state has
   pub long : (v : ℕ) → IsCorrect m faulty v → length (bytes 0 v) ≡ bytes_in (m.fields v)
-  -- it is told the state of each other correct node
+  -- it is given the state of each other correct node
   pub told : (t v u : ℕ) → t < count → IsCorrect m faulty v → IsCorrect m faulty u → u ≢ v
       → cell_in m (packets t v) u ≡ bytes t u
-  -- and steps as the call answers, behind one packet
+  -- and steps as the call answers, after one packet
   pub steps : (t v : ℕ) → t < count → IsCorrect m faulty v
       → step_answer text v (bytes t v) (packets t v) ≡ Ok (1, bytes (t + 1) v)
 
@@ -43,7 +43,7 @@ module _ (text : List ℕ) (m : Machine) (faulty : List ℕ) (count : ℕ) (byte
     pub locked : (t : ℕ) → from ≤ t → t ≤ count → IsLocked m faulty (states_said m bytes t)
     pub counts : CountFrom from
 
-  -- They count from the bound on, where they are locked, and from any locked round on.
+  -- They count from the bound on, at which they are locked, and from any locked round on.
   pub record CountByBytes : Type 0 where
     pub settles : CountFrom m.bound
     pub locks : m.bound ≤ count → IsLocked m faulty (states_said m bytes m.bound)
@@ -51,7 +51,7 @@ module _ (text : List ℕ) (m : Machine) (faulty : List ℕ) (count : ℕ) (byte
         → StayLockedFrom from
 
 -- Nodes that step so count, with each faulty set that the counter tolerates. A round is a call in
--- each of them, however many calls each has made before: so it is too where some were started anew.
+-- each of them, however many calls each has made before: so it is too if some were started anew.
 abbrev pub NodesCount : Type 0
 NodesCount = (text : List ℕ) (counter : AnyMachine) → counter_answer text ≡ Ok counter
     → (faulty : List ℕ) → IsBorne (machine_of counter) faulty
@@ -61,8 +61,8 @@ NodesCount = (text : List ℕ) (counter : AnyMachine) → counter_answer text �
 
 -- ---- losses
 
--- So many rounds in which states are lost: each correct node is told the states of all nodes that
--- it does not miss in that round. Of those that it misses it may be told any cells.
+-- So many rounds in which states are lost: each correct node is given the states of all nodes that
+-- it does not miss in that round. Of those that it misses it may be given any cells.
 pub record InLossyRounds (text : List ℕ) (m : Machine) (faulty : List ℕ) (count : ℕ)
     (bytes packets : ℕ → ℕ → List ℕ) : Type 0 where
   pub long : (v : ℕ) → IsCorrect m faulty v → length (bytes 0 v) ≡ bytes_in (m.fields v)
@@ -73,8 +73,8 @@ pub record InLossyRounds (text : List ℕ) (m : Machine) (faulty : List ℕ) (co
   pub steps : (t v : ℕ) → t < count → IsCorrect m faulty v
       → step_answer text v (bytes t v) (packets t v) ≡ Ok (1, bytes (t + 1) v)
 
--- From any locked round on they stay locked and count, as long as each correct node is told in each
--- round the states of N - F correct nodes, its own among them, whichever these are.
+-- From any locked round on they stay locked and count, as long as each correct node is given in
+-- each round the states of N - F correct nodes, its own among them, whichever these are.
 abbrev pub LossyNodesCount : Type 0
 LossyNodesCount = (text : List ℕ) (counter : AnyMachine) → counter_answer text ≡ Ok counter
     → (faulty : List ℕ) → IsBorne (machine_of counter) faulty

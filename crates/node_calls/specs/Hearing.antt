@@ -7,7 +7,7 @@ use Rattle.node_stepper.specs.Serving.{StandsBehind, served}
 use Rattle.node_calls.specs.declared.errors.CallError.{CallError}
 use Rattle.node_calls.specs.declared.errors.CallError.TheVariants as error
 
--- it stands behind all packets, which are so many; or the bytes are not packets
+-- it stands after all packets, which are so many; or the bytes are not packets
 abbrev pub Hears : {M : Type 0} → (machine : M → Machine) → (before after : Standing M) → List ℕ
     → Result ℕ CallError → Type 0
 Hears machine before after packets (Ok count) =

@@ -1,4 +1,4 @@
--- There are rounds in which states are lost, as nodes that step by calls may be told.
+-- There are rounds in which states are lost, as nodes that step by calls may hear them.
 use Rattle.std.specs.Prelude.{◌≡◌, ℕ, ◌<◌, List, Ok, true}
 use Rattle.sync_types.specs.States.{State}
 use Rattle.construction.specs.Runs.{is_in}
@@ -13,7 +13,7 @@ use Rattle.node_calls.specs.Counters.{counter_answer}
 use Rattle.node_calls.specs.Counting.{cell_in, InLossyRounds}
 
 -- Rounds of nodes that begin in these states, of which each misses these nodes in each round: in
--- round t node v is told `sent t v u` as the state of a node u that it misses then. Where these are
+-- round t node v is given `sent t v u` as the state of a node u that it misses then. If these are
 -- bytes that fit into a cell, the packets are bytes.
 pub record MissIn (text : List ℕ) (m : Machine) (faulty : List ℕ) (starts : ℕ → State)
     (sent : ℕ → ℕ → ℕ → List ℕ) (missed : (t v : ℕ) → List ℕ) (count : ℕ) : Type 0 where
@@ -29,7 +29,7 @@ pub record MissIn (text : List ℕ) (m : Machine) (faulty : List ℕ) (starts : 
       → (t v : ℕ) → t < count → IsCorrect m faulty v → AreBytes (packets t v)
 
 -- There are such rounds, whatever states the nodes begin in, whatever is lost of what the counter
--- tolerates, to each node in each round something else, and whatever is told in its place.
+-- tolerates, to each node in each round something else, and whatever is given in its place.
 abbrev pub AnyLossesAreTold : Type 0
 AnyLossesAreTold = (text : List ℕ) (counter : AnyMachine) → counter_answer text ≡ Ok counter
     → (faulty : List ℕ) (starts : ℕ → State) (sent : ℕ → ℕ → ℕ → List ℕ)

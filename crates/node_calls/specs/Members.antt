@@ -13,15 +13,15 @@ use Rattle.node_calls.specs.Counters.{counter_answer}
 use Rattle.node_calls.specs.MixedNodes.{Member, process, caller, hears, MembersConnect}
 use Rattle.node_calls.specs.MixedNodes.{MembersAreHeard}
 
--- Node v begins in this state: as a process, whose window begins at this packet of it; or, where
--- none is said, as a caller with this text.
+-- Node v begins in this state: as a process, whose window begins at this packet of it; or, if none
+-- is said, as a caller with this text.
 abbrev pub Begins : Machine → (text : List ℕ) → (v : ℕ) → State → Option ℕ → Member → Type 0
 Begins m text v s (Some at) (process start packets begins) = (start ≡ s) × (begins ≡ at)
 Begins m text v s None (caller own bytes packets) =
     (own ≡ text) × (bytes 0 ≡ written (m.fields v) s)
 Begins m text v s at other = ⊥
 
--- what it is given in so many rounds are bytes, and a process before them too
+-- what it is given in so many rounds is bytes; a process is given bytes before them too
 abbrev pub IsGivenBytes : (rounds : ℕ) → Member → Type 0
 IsGivenBytes rounds (process start packets begins) = All (All FitsCell) packets
 IsGivenBytes rounds (caller text bytes packets) = (i : ℕ) → i < rounds → AreBytes (packets i)
@@ -29,7 +29,7 @@ IsGivenBytes rounds (caller text bytes packets) = (i : ℕ) → i < rounds → A
 module _ (m : Machine) (text : List ℕ) (faulty : List ℕ) (starts : ℕ → State)
     (begins : ℕ → Option ℕ) (sent : (i v u : ℕ) → List ℕ) (rounds : ℕ) where
   -- Members that begin so and are given what the correct ones say: as the cell of a faulty node u,
-  -- node v is given `sent i v u` in round i. Where these are bytes that fit, all that is given are.
+  -- node v is given `sent i v u` in round i. If these are bytes that fit, all that is given are.
   pub record ConnectedMembers : Type 0 where
     pub members : ℕ → Member
     pub begin : (v : ℕ) → IsCorrect m faulty v → Begins m text v (starts v) (begins v) (members v)
@@ -40,7 +40,7 @@ module _ (m : Machine) (text : List ℕ) (faulty : List ℕ) (starts : ℕ → S
         → is_in faulty u ≡ true → FitsCell (sent i v u))
         → (v : ℕ) → IsCorrect m faulty v → IsGivenBytes rounds (members v)
 
-  -- members that do so where states are lost: node v is given `sent i v u` as the cell of a node
+  -- members that do so when states are lost: node v is given `sent i v u` as the cell of a node
   -- that it misses in round i
   pub record HeardMembers (missed : (i v : ℕ) → List ℕ) : Type 0 where
     pub members : ℕ → Member
@@ -64,7 +64,7 @@ AnyMembersConnect = (text : List ℕ) (counter : AnyMachine) → counter_answer 
     → ConnectedMembers (machine_of counter) text faulty starts begins sent rounds
 
 -- So there are whatever is lost of what the counter tolerates, to each node in each round something
--- else, and whatever is told in its place.
+-- else, and whatever is given in its place.
 abbrev pub AnyMembersAreHeard : Type 0
 AnyMembersAreHeard = (text : List ℕ) (counter : AnyMachine) → counter_answer text ≡ Ok counter
     → (faulty : List ℕ) (starts : ℕ → State) (begins : ℕ → Option ℕ)

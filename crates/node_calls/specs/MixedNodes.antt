@@ -19,8 +19,8 @@ use Rattle.node_calls.specs.Answers.{output_answer, step_answer}
 use Rattle.node_calls.specs.Counting.{cell_in}
 
 -- A process begins in a state and is given packets; the window of rounds begins at one of these. A
--- caller keeps bytes, and makes of them the next ones by a call, behind one packet, with the text
--- of a plan; both begin with the window.
+-- caller keeps bytes, and makes of them the next ones by a call, after one packet, with the text of
+-- a plan; both begin with the window.
 pub data Member : Type 0 where
   process : (start : State) (packets : List (List (List ℕ))) (begins : ℕ) → Member
   caller : (text : List ℕ) (bytes packets : ℕ → List ℕ) → Member
@@ -92,7 +92,7 @@ MixedNodesCount = (m : Machine) → IsSound m → (faulty : List ℕ) → IsBorn
     → (members : ℕ → Member) (rounds : ℕ) → MembersConnect m faulty members rounds
     → MembersCount m faulty members rounds
 
--- From any locked round on they stay locked and count where states are lost.
+-- From any locked round on they stay locked and count even if states are lost.
 abbrev pub MixedNodesStayLocked : Type 0
 MixedNodesStayLocked = (m : Machine) → IsSound m → (faulty : List ℕ) → IsBorne m faulty
     → (members : ℕ → Member) (rounds : ℕ) → MembersAreHeard m faulty members rounds

@@ -1,7 +1,7 @@
 use counter_core::{Heard, Work};
 use machines::Machine;
 use plan_machine::PlanMachine;
-use pulse_machine::PulseMachine;
+use pulse_plan::PulseMachine;
 use sync_types::NodeState;
 
 /// The machine of a plan of either construction.
@@ -60,10 +60,10 @@ impl Machine for AnyMachine {
         }
     }
 
-    fn tell(&self) {
+    fn facts(&self) {
         match self {
-            AnyMachine::Boosting(machine) => machine.tell(),
-            AnyMachine::Pulses(machine) => machine.tell(),
+            AnyMachine::Boosting(machine) => machine.facts(),
+            AnyMachine::Pulses(machine) => machine.facts(),
         }
     }
 

@@ -10,12 +10,12 @@ use machines::Machine;
 use plan_machine::PlanMachine;
 use plan_numbers::Plan;
 use plan_reader::{first_unskipped, read_whole_plan};
-use pulse_machine::PulseMachine;
+use pulse_plan::PulseMachine;
 use pulse_texts::{PulsesError, read_whole_pulses};
 use std::alloc::Global;
 use sync_types::{NoMemory, NodeState};
 
-/// The plan of a text, behind which only skipped lines stand.
+/// The plan of a text, after which only skipped lines stand.
 ///
 /// `Refused` is the text's first line that fails, with its first premise.
 fn plan_in(alloc: Global, text: &[u8]) -> Result<Plan, CallError>
@@ -90,13 +90,13 @@ pub fn state_bytes(alloc: Global, text: &[u8], id: u32) -> Result<usize, CallErr
     Ok(machine.bytes_of(id))
 }
 
-/// What the state shows that bytes stand for, as one of node `id`.
+/// What node `id` shows in the state that bytes stand for.
 fn shown_by<M: Machine>(alloc: Global, machine: &M, id: u32, state: &[u8]) -> Result<u64, NoMemory>
     requires { id < (M.machine machine.now).nodes }
     ensures { IfOk result (λ output. output
         ≡ (M.machine machine.now).shows id (read ((M.machine machine.now).fields id) state.now)) }
 {
-    machine.tell();
+    machine.facts();
     let mut own = NodeState::zero(alloc, machine.depth())?;
     machine.read_state(id, state, &mut own);
     Ok(machine.output(id, &own))

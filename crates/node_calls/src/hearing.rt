@@ -21,13 +21,13 @@ pub(crate) fn node_of<M: Machine>(
     ensures { IfOk result (λ e. e
         ≡ begun M.machine machine id (read ((M.machine machine).fields id) state.now)) }
 {
-    machine.tell();
+    machine.facts();
     let mut own = NodeState::zero(alloc, machine.depth())?;
     machine.read_state(id, state, &mut own);
     NodeEngine::new(alloc, machine, id, own)
 }
 
-/// Hears packets and steps behind each: the answer is how many these were.
+/// Hears packets and steps after each: the answer is how many these were.
 pub(crate) fn hear<M: Machine>(engine: &mut NodeEngine<M>, packets: &[u8]) -> Result<u64, CallError>
     ensures { Hears M.machine engine.old engine.new packets.now result }
 {

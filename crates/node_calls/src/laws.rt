@@ -21,15 +21,15 @@ pub fn nodes_count()
     ensures { NodesCount }
 {}
 
-/// From any locked round on they stay locked and count where states are lost too, as long as each
-/// correct node is told in each round the states of N - F correct nodes, its own among them,
+/// From any locked round on they stay locked and count even if states are lost, as long as each
+/// correct node is given in each round the states of N - F correct nodes, its own among them,
 /// whichever these are.
 pub fn lossy_nodes_count()
     ensures { LossyNodesCount }
 {}
 
 /// There are such rounds, whatever states the nodes begin in, and whatever is lost that the plan
-/// tolerates, to each node in each round something else: in bytes, where what is told in its place
+/// tolerates, to each node in each round something else: in bytes, if what is given in its place
 /// are bytes that fit into a cell.
 pub fn any_losses_are_told()
     ensures { AnyLossesAreTold }
@@ -41,18 +41,18 @@ pub fn mixed_nodes_count()
     ensures { MixedNodesCount }
 {}
 
-/// From any locked round on they stay locked and count where states are lost.
+/// From any locked round on they stay locked and count even if states are lost.
 pub fn mixed_nodes_stay_locked()
     ensures { MixedNodesStayLocked }
 {}
 
 /// There are such networks, whichever nodes step by calls, whatever states they begin in, and
-/// whatever the faulty ones say: in bytes, where what these say are bytes that fit into a cell.
+/// whatever the faulty ones say: in bytes, if what these say are bytes that fit into a cell.
 pub fn any_members_connect()
     ensures { AnyMembersConnect }
 {}
 
-/// So there are whatever is lost that the plan tolerates, and whatever is told in its place.
+/// So there are whatever is lost that the plan tolerates, and whatever is given in its place.
 pub fn any_members_are_heard()
     ensures { AnyMembersAreHeard }
 {}

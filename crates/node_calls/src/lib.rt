@@ -1,4 +1,4 @@
-//! One node of a plan's counter, asked by bytes: each call is told the plan's text, of either
+//! One node of a plan's counter, asked by bytes: each call is given the plan's text, of either
 //! construction, and keeps nothing.
 //!
 //! [`step`] steps a node after packets, [`output`] is what a state shows, [`state_bytes`] how many

@@ -8,7 +8,7 @@ use crate::hearing::{hear, node_of};
 use machines::Machine;
 use std::alloc::Global;
 
-/// Steps node `id` of a machine behind each packet.
+/// Steps node `id` of a machine after each packet.
 fn step_in<M: Machine>(
     alloc: Global,
     machine: M,

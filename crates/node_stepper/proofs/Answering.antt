@@ -5,7 +5,7 @@ use Rattle.std.proofs.Common.{arith}
 use Rattle.std.specs.Io.KnownBytes.{Consumes, Keeps, IsAtEnd}
 use Rattle.std.proofs.KnownBytes.{Consumes-nil, Consumes-trans, Consumes-kept}
 use Rattle.std.specs.List.{flat_map}
-use Rattle.texts.specs.Growth.{Told, Wrote, Cut}
+use Rattle.texts.specs.Growth.{SinkState, Wrote, Cut}
 use Rattle.texts.proofs.Growth.{wrote_then, cut_then, cut_more}
 use Rattle.sync_types.specs.States.{State}
 use Rattle.machines.specs.Machines.{Machine}
@@ -40,7 +40,7 @@ module _ {M : Type 0} (machine : M → Machine) where
     abbrev cell : State → List ℕ
     cell s = state_cell (machine before.counter) before.id s
 
-    pub record ServedSoFar (now : Standing M) (s t : Option (List ℕ)) (w x : Told)
+    pub record ServedSoFar (now : Standing M) (s t : Option (List ℕ)) (w x : SinkState)
         (count : ℕ) : Type 0 where
       pub bytes : List ℕ
       pub packets : List (List (List ℕ))
@@ -51,7 +51,7 @@ module _ {M : Type 0} (machine : M → Machine) where
       pub stands : StandsBehind machine before now packets
       pub wrote : Wrote (answer machine before packets) w x
 
-    -- the own cell of an engine that stands behind packets
+    -- an engine's own cell after packets
     cell_is : (now : Standing M) (packets : List (List (List ℕ)))
         → StandsBehind machine before now packets
         → state_cell (machine now.counter) now.id (own now) ≡ cell (behind packets)
@@ -61,7 +61,7 @@ module _ {M : Type 0} (machine : M → Machine) where
         ∙ ap (λ i. state_cell (machine before.counter) i (behind packets)) stands.id
 
     -- the first cell is cut, whatever follows
-    pub first_cut : (now : Standing M) (s : Option (List ℕ)) (w x : Told)
+    pub first_cut : (now : Standing M) (s : Option (List ℕ)) (w x : SinkState)
         → StandsBehind machine before now []
         → Cut (state_cell (machine now.counter) now.id (own now)) w x
         → ServedCut machine before now s s w x
@@ -80,7 +80,7 @@ module _ {M : Type 0} (machine : M → Machine) where
       stands = stands;
     }
 
-    pub served_none : (now : Standing M) (s : Option (List ℕ)) (w x : Told)
+    pub served_none : (now : Standing M) (s : Option (List ℕ)) (w x : SinkState)
         → StandsBehind machine before now []
         → Wrote (state_cell (machine now.counter) now.id (own now)) w x → ServedSoFar now s s w x 0
     served_none now s w x stands wrote = record {
@@ -96,7 +96,7 @@ module _ {M : Type 0} (machine : M → Machine) where
       ) wrote;
     }
 
-    module _ (now : Standing M) (s t u : Option (List ℕ)) (w x : Told) (count : ℕ)
+    module _ (now : Standing M) (s t u : Option (List ℕ)) (w x : SinkState) (count : ℕ)
         (h : ServedSoFar now s t w x count) where
       all_of : (rest : List ℕ) (ending : Ending)
           → packets_of size (1000000 - count) count rest ≡ record { cells = []; ending = ending }
@@ -107,7 +107,7 @@ module _ {M : Type 0} (machine : M → Machine) where
           ∙ ap (λ (l : List (List (List ℕ))). let p : Packets =
           record { cells = l; ending = ending } in p) (append-nil h.packets)
 
-      -- all packets of what was read, where no further one is whole
+      -- all packets of what was read, if no further one is whole
       module _ (new : Standing M) (stands : StandsBehind machine before new h.packets)
           (rest : List ℕ)
           (ending : Ending) (read : Consumes t u rest)
@@ -153,7 +153,7 @@ module _ {M : Type 0} (machine : M → Machine) where
           ≡ record { cells = []; ending = beyond }
       past b rest e = let none : 1000000 - count ≡ 0 = omega (arith, e) in rw none refl
 
-      -- the engine as it stood, where it forgets who was heard of a packet that was not whole
+      -- the engine as it stood, once it forgets who was heard of a packet that was not whole
       pub again : (mid new : Standing M) → IsSame now mid → new ≡ forgetting machine mid
           → StandsBehind machine before new h.packets
       again mid new same is =
@@ -168,7 +168,7 @@ module _ {M : Type 0} (machine : M → Machine) where
       pub unmoved : (new : Standing M) → new ≡ now → StandsBehind machine before new h.packets
       unmoved new is = subst (λ e. StandsBehind machine before e h.packets) (sym is) h.stands
 
-      -- one packet more
+      -- one more packet
       module _ (mid new : Standing M) (node : now.id < (machine now.counter).nodes)
           (lt : count < 1000000)
           (fed : PacketFed machine now mid t u) (is_new : new ≡ stepped machine mid) where
@@ -220,7 +220,8 @@ module _ {M : Type 0} (machine : M → Machine) where
             ∙ ap cell (state_push (machine before.counter) before.id (own before) h.packets
             fed.packet)
 
-        pub served_more : (y : Told) → Wrote (state_cell (machine new.counter) new.id (own new)) x y
+        pub served_more : (y : SinkState) → Wrote (state_cell (machine new.counter) new.id
+            (own new)) x y
             → ServedSoFar new s u w y (count + 1)
         served_more y wrote = record {
           bytes = h.bytes ++ fed.bytes;
@@ -246,7 +247,8 @@ module _ {M : Type 0} (machine : M → Machine) where
             record { cells = l; ending = whole (count + 1) } in p)
             (append-nil (h.packets ++ fed.packet ∷ []))
 
-        pub served_cut : (y : Told) → Cut (state_cell (machine new.counter) new.id (own new)) x y
+        pub served_cut : (y : SinkState) → Cut (state_cell (machine new.counter) new.id (own new)) x
+            y
             → ServedCut machine before new s u w y
         served_cut y is = record {
           bytes = h.bytes ++ fed.bytes;
@@ -338,7 +340,7 @@ module _ {M : Type 0} (machine : M → Machine) where
         record { front = h.bytes; last = b; parts = refl; pending = within_if so_far tt },
       )
 
-      -- the end behind the last packet
+      -- the end after the last packet
       last : count ≡ 1000000 → packets_of size (1000000 - count) count []
           ≡ record { cells = []; ending = whole 1000000 }
       last e = ap (λ n. let p : Packets = record { cells = []; ending = whole n } in p) e

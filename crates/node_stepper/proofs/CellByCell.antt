@@ -1,23 +1,21 @@
 -- One cell after another.
-use Rattle.std.proofs.Common.{◌*◌, ◌<◌, ◌≢◌, Bool, true, false, drop, Option, Some, None, Result}
+use Rattle.std.proofs.Common.{◌*◌, ◌<◌, Bool, true, false, drop, Option, Some, None, Result}
 use Rattle.std.proofs.Common.{Ok, Err, length-append, sym, ◌-◌, ◌/◌, ◌%◌, ◌≡◌, ℕ, suc, ◌+◌, ◌≤◌}
 use Rattle.std.proofs.Common.{List, [], ◌∷◌, ◌++◌, length, take, set, get_or, refl, ap, ◌∙◌, subst}
 use Rattle.std.proofs.Common.{arith}
-use Rattle.std.specs.Prelude.{◌==◌, if◌then◌else◌, slice_set}
 use Rattle.std.specs.Io.KnownBytes.{Consumes}
 use Rattle.std.proofs.KnownBytes.{Consumes-trans}
 use Rattle.std.proofs.Math.Seq.{take-append_seam, drop-append_seam}
-use Rattle.std.proofs.lemmas.Bool.{le-leb, lt-leb, ne_eqb}
+use Rattle.std.proofs.lemmas.Bool.{le-leb, lt-leb}
 use Rattle.std.proofs.lemmas.List.{length-set, length-take-le}
 use Rattle.std.proofs.lemmas.Slice.{take-put_mid}
 use Rattle.state_codec.proofs.Bytes.{length-bytes_of_bits}
-use Rattle.sync_types.specs.States.{State, zero_state}
+use Rattle.sync_types.specs.States.{State}
 use Rattle.state_codec.specs.Shapes.{Fields, bytes_in}
 use Rattle.state_codec.specs.Writing.{written, bits_of_state, padding}
-use Rattle.state_codec.specs.Reading.{read}
 use Rattle.node_stepper.specs.Packets.{cell_at}
 use Rattle.machines.specs.Machines.{Machine}
-use Rattle.node_stepper.specs.Nodes.{Standing, IsOther, hearing, cell_text}
+use Rattle.node_stepper.specs.Nodes.{Standing, hearing, cell_text}
 use Rattle.node_stepper.specs.Hearing.{BodyFed, WholeCell, CellFed}
 use borrow.Rule.Slice.PartMut.{put_mid}
 
@@ -30,7 +28,7 @@ first_two h l (a ∷ b ∷ out) long = refl
 long2 : (h l : ℕ) (out : List ℕ) → length (set (set out 0 h) 1 l) ≡ length out
 long2 h l out = length-set (set out 0 h) 1 l ∙ length-set out 0 h
 
--- a cell that is written to the front
+-- a cell that is written at the beginning
 pub front_is : (h l n : ℕ) (out bytes : List ℕ) → 2 + n ≤ length out → length bytes ≡ n
     → take (2 + n) (put_mid 2 n (set (set out 0 h) 1 l) bytes) ≡ h ∷ l ∷ bytes
 front_is h l n out bytes room size =
@@ -77,18 +75,6 @@ cut_cell : (high low : ℕ) (body : List ℕ) → length body < 256 * high + low
     → cell_at (high ∷ low ∷ body) ≡ None
 cut_cell high low body lt = rw (lt-leb (256 * high + low) (length body) lt) refl
 
--- bytes that are no state's are read as none are
-zero_by : (fields : Fields) (bytes : List ℕ) (test : Bool)
-    → (length bytes == bytes_in fields) ≡ test
-    → test ≡ false → read fields bytes ≡ zero_state (length fields.moduli)
-zero_by fields bytes test is none = rw (is, none) refl
-
-other_read : (fields : Fields) (a b : List ℕ) → length a ≢ bytes_in fields
-    → length b ≢ bytes_in fields → read fields a ≡ read fields b
-other_read fields a b first second =
-    zero_by fields a false (ne_eqb (length a) (bytes_in fields) first) refl
-    ∙ sym (zero_by fields b false (ne_eqb (length b) (bytes_in fields) second) refl)
-
 -- which machine each counter is
 module _ {M : Type 0} (machine : M → Machine) where
   -- the length of a cell was read, and then its bytes
@@ -117,7 +103,7 @@ module _ {M : Type 0} (machine : M → Machine) where
     heard,
   )
 
-  -- a cell that stands at the front of bytes was read there
+  -- a cell that stands at the beginning of bytes was read there
   pub held_cell : (n sender : ℕ) (before after : Standing M) (s t : Option (List ℕ))
       (bytes : List ℕ)
       → 2 + n ≤ length bytes → 256 * get_or bytes 0 0 + get_or bytes 1 0 ≡ n
@@ -154,16 +140,3 @@ module _ {M : Type 0} (machine : M → Machine) where
       (high ∷ bytes, Consumes-trans s t u (high ∷ []) bytes first fed, is, ended, heard)
   cell_fed high sender before after s t u (Err e) first (bytes, fed, is, heard) =
       (high ∷ bytes, Consumes-trans s t u (high ∷ []) bytes first fed, is, heard)
-
-  -- two cells that are no states are heard alike
-  pub other_heard : (e : Standing M) (sender : ℕ) (a b : List ℕ)
-      → IsOther (machine e.counter) sender (length a)
-      → IsOther (machine e.counter) sender (length b)
-      → hearing machine e sender a ≡ hearing machine e sender b
-  other_heard e sender a b first second =
-      ap (λ (s : State). if sender == e.id then e else record e {
-        states = slice_set e.states sender
-            s;
-        since = slice_set e.since sender true;
-      })
-      (other_read ((machine e.counter).fields sender) a b first second)

@@ -68,7 +68,7 @@ module _ (m : Machine) (lost : (i v u : ℕ) → Bool) (starts : ℕ → State)
   abbrev written_behind : (u : ℕ) → List (List (List ℕ)) → List ℕ
   written_behind u packets = written (m.fields u) (state_behind m u (starts u) packets)
 
-  -- the cell of node u for node v in round i, where u has these packets before
+  -- the cell of node u for node v in round i, if u has these packets before
   abbrev cell_from : (i v u : ℕ) → List (List (List ℕ)) → List ℕ
   cell_from i v u packets =
       if lost i v u then sent (begins v + i) v u else written_behind u packets

@@ -1,4 +1,4 @@
--- Faulty nodes that a machine bears are fewer than its nodes.
+-- Faulty nodes that a machine tolerates are fewer than its nodes.
 use Rattle.std.proofs.Common.{arith}
 use Rattle.counting.proofs.Places.{one_fails}
 use Rattle.counter_core.proofs.ListsAndPlaces.{places_of_ids}

@@ -1,4 +1,4 @@
--- What connected nodes are given fits into cells, where what is sent does.
+-- What connected nodes are given fits into cells, if what is sent does.
 use Rattle.std.proofs.Common.{◌≡◌, ℕ, ◌+◌, ◌-◌, ◌<◌, Bool, true, false, inl, inr, List, refl, sym}
 use Rattle.std.proofs.Common.{subst, arith}
 use Rattle.std.proofs.lemmas.Bool.{cases_lt}

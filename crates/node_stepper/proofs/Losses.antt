@@ -1,4 +1,4 @@
--- From a locked configuration on nodes stay locked and count where states are lost.
+-- From a locked configuration on nodes stay locked and count when states are lost.
 use Rattle.std.proofs.Common.{◌≡◌, ℕ, zero, suc, ◌+◌, ◌-◌, ◌%◌, ◌<◌, ◌≤◌, Bool, true, false}
 use Rattle.std.proofs.Common.{◌||◌, List, [], ◌∷◌, length, ◌⊎◌, inl, inr, Option, Some, None, refl}
 use Rattle.std.proofs.Common.{sym, ap, ◌∙◌, subst, arith}
@@ -93,7 +93,7 @@ module _ (m : Machine) (sound : IsSound m) where
         | inr all ↦ inr (omega (arith, places_of_ids (v ∷ missed) m.nodes))
       ]
 
-  -- where no node is missed the truth is heard
+  -- if no node is missed, the truth is heard
   truth : (missed : List ℕ) (old heard : List State) → length old ≡ m.nodes
       → HearsOthers m missed old heard → length missed ≡ 0 → heard ≡ old
   truth missed old heard size hears none =

@@ -7,7 +7,7 @@ use Rattle.machines.specs.Machines.{Machine}
 use Rattle.node_stepper.specs.Nodes.{state_cell, state_after, state_behind, states_of, node_text}
 
 module _ (m : Machine) (v : ℕ) where
-  -- its state behind one packet more
+  -- its state after one more packet
   pub state_push : (s : State) (packets : List (List (List ℕ))) (packet : List (List ℕ))
       → state_behind m v s (packets ++ packet ∷ [])
       ≡ state_after m v (state_behind m v s packets) packet
@@ -31,7 +31,7 @@ module _ (m : Machine) (v : ℕ) where
       ∙ flat_map-append (state_cell m v) (states_of m v s packets) (next ∷ [])
       ∙ ap (λ (l : List ℕ). node_text m v s packets ++ l) (append-nil (state_cell m v next))
 
-  -- the states behind the first
+  -- the states after the first
   pub replies : State → List (List (List ℕ)) → List State
   replies s [] = []
   replies s (p ∷ packets) = state_after m v s p ∷ replies (state_after m v s p) packets

@@ -18,7 +18,7 @@ use Rattle.node_stepper.specs.Nodes.{Standing, own, heard_of, heard_in, state_af
 use Rattle.node_stepper.specs.Nodes.{hearing, stepped, AllHeard}
 use Rattle.node_stepper.specs.Hearing.{IsSame, HeardCells, WholeCell, CellFed, PacketFed, PacketCut}
 
--- the packet's cells behind others
+-- the packet's cells after others
 abbrev pub onto_cells : List (List ℕ) → Result (List (List ℕ) × List ℕ) ℕ
     → Result (List (List ℕ) × List ℕ) ℕ
 onto_cells cells (Ok (more, behind)) = Ok (cells ++ more, behind)
@@ -202,7 +202,7 @@ module _ {M : Type 0} (machine : M → Machine) where
         ≡ onto_cells cells (cells_of ((machine before.counter).nodes - count) count rest)
     pub heard : HeardCells machine before now cells
 
-  -- one cell more
+  -- one more cell
   pub cells_more : (E : Type 0) (before mid after : Standing M) (s t u : Option (List ℕ))
       (count : ℕ)
       → count < (machine before.counter).nodes → CellsFed before mid s t count

@@ -1,10 +1,10 @@
--- Packets of bytes, one in front of the others.
+-- Packets of bytes, one before the others.
 use Rattle.std.proofs.Common.{◌≡◌, ℕ, suc, ◌+◌, ◌<◌, List, [], ◌∷◌, ◌++◌, length, Ok, Err, refl}
 use Rattle.std.proofs.Common.{sym, ap, append_assoc, subst, arith}
 use Rattle.node_stepper.specs.Packets.{cells_of, Ending, IsWithin, cut, Packets, onto_packet}
 use Rattle.node_stepper.specs.Packets.{packets_of}
 
--- packets behind others
+-- packets after others
 abbrev pub after : List (List (List ℕ)) → Packets → Packets
 after packets r = record { cells = packets ++ r.cells; ending = r.ending }
 

@@ -78,7 +78,7 @@ module _ (m : Machine) (faulty meanwhile : List ℕ) (node : ℕ)
   faulty_too u is false other = too.others u (eqb-false u node other) ∙ is
 
 -- The rounds before are those of any nodes among which the ones that are correct all the time are
--- correct, and each that is faulty in the rest is faulty. Behind them the node begins in any state.
+-- correct, and each that is faulty in the rest is faulty. After them the node begins in any state.
 record Before (m : Machine) (faulty meanwhile : List ℕ) (node after : ℕ) (starts : ℕ → State)
     (sent : ℕ → ℕ → ℕ → List ℕ) (begins : ℕ → ℕ) : Type 0 where
   away : List ℕ
@@ -189,7 +189,7 @@ module _ (m : Machine) (sound : IsSound m) (faulty meanwhile : List ℕ) (node a
       rest.given i node u (omega (arith, from, lt)) ult (inr is)
       ∙ ap (λ b. cond b (sent (begins node + after + i) node u) (sent_on i node u)) it
 
-  -- what is sent in the rest fits into cells, where all that is sent does
+  -- what is sent in the rest fits into cells, if all that is sent does
   fit : StatesFit m → AllFit m sent → AllFit m sent_later
   fit short fits t v u ult = by (v == node) (nat_lt t (begins v + after)) refl where
     by : (anew early : Bool) → nat_lt t (begins v + after) ≡ early

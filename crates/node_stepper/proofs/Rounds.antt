@@ -17,7 +17,8 @@ use Rattle.node_stepper.specs.NodeRuns.{Nodes, cell_given, IsCorrect, state_at, 
 use Rattle.node_stepper.specs.NodeRuns.{AreConnected}
 use Rattle.node_stepper.specs.Losses.{AreHeard}
 use Rattle.node_stepper.specs.RunLaws.{RunThrough, StayLockedThrough}
-use Rattle.node_stepper.specs.Rounds.{packet_given, state_said, states_said, StepInRounds, AreInRounds}
+use Rattle.node_stepper.specs.Rounds.{packet_given, state_said, states_said, StepInRounds}
+use Rattle.node_stepper.specs.Rounds.{AreInRounds}
 use Rattle.node_stepper.specs.Rounds.{AreInLossyRounds, SayRun, NodesInRoundsRun}
 use Rattle.node_stepper.specs.Rounds.{NodesInRoundsStayLocked}
 use Rattle.node_stepper.proofs.Follows.{locked_elsewhere, stay_elsewhere}
@@ -95,7 +96,7 @@ module _ (m : Machine) (sound : IsSound m) (faulty : List ℕ) (rounds : ℕ)
   packet_is : (i v : ℕ) → i < rounds → get_or (nodes.packets v) i [] ≡ packet v i
   packet_is i v early = get_or-map-range_with_len (packet v) 0 rounds i i [] early (omega arith)
 
-  -- what a correct node says is its state behind as many packets
+  -- what a correct node says is its state after as many packets
   says_next : (i v : ℕ) → i < rounds → IsCorrect m faulty v → state_at m nodes i v ≡ state i v
       → state_at m nodes (i + 1) v ≡ state (i + 1) v
   says_next i v early correct is =

@@ -25,7 +25,7 @@ module _ (m : Machine) (sound : IsSound m) where
   reads_back u lt s is =
       written_reads_back (m.fields u) s (sound.fields u lt) is
 
-  -- a node is in a state of it behind any packets
+  -- a node is in a state of its own after any packets
   pub behind_is_state : (v : ℕ) → v < m.nodes → (s : State) (packets : List (List (List ℕ)))
       → IsState m v s → IsState m v (state_behind m v s packets)
   behind_is_state v lt s [] is = is

@@ -47,7 +47,7 @@ module _ (m : Machine) (sound : IsSound m) (faulty : List ℕ) (nodes : Nodes)
   hears i v =
       heard_in m v (state_in m nodes begins i v) (get_or (nodes.packets v) (begins v + i) [])
 
-  -- a node's state after one round more
+  -- a node's state after one more round
   next_is : (i v : ℕ) → i < rounds → IsCorrect m faulty v
       → state_in m nodes begins (i + 1) v ≡ m.step v (hears i v)
   next_is i v lt correct =

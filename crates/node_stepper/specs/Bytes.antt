@@ -7,7 +7,7 @@ use Rattle.machines.specs.Machines.{Machine}
 abbrev pub AreBytes : List ℕ → Type 0
 AreBytes bytes = All (λ byte. byte < 256) bytes
 
--- bytes of which a cell can say how many they are
+-- bytes whose number a cell can say
 pub record FitsCell (cell : List ℕ) : Type 0 where
   pub bytes : AreBytes cell
   pub short : length cell < 65536

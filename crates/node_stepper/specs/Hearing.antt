@@ -32,14 +32,14 @@ pub record PacketCut (nodes sender : ℕ) (old new : Option (List ℕ)) : Type 0
 
 -- which machine each counter is
 module _ {M : Type 0} (machine : M → Machine) where
-  -- a cell was heard, where it was whole
+  -- a cell was heard, if it was whole
   abbrev pub HeardIf : {E : Type 0} → (before after : Standing M) → (sender : ℕ) → List ℕ
       → Result Bool E → Type 0
   HeardIf before after sender cell (Ok true) = after ≡ hearing machine before sender cell
   HeardIf before after sender cell (Ok false) = after ≡ before
   HeardIf before after sender cell (Err e) = after ≡ before
 
-  -- what hearing the bytes of a cell behind its length did
+  -- what hearing the bytes of a cell after its length did
   abbrev pub BodyFed : {E : Type 0} → (n sender : ℕ) → (before after : Standing M)
       → (old new : Option (List ℕ)) → Result Bool E → Type 0
   BodyFed n sender before after old new result =
@@ -87,7 +87,7 @@ module _ {M : Type 0} (machine : M → Machine) where
     pub size : length packet ≡ (machine before.counter).nodes
     pub heard : HeardCells before after packet
 
-  -- what hearing a packet, or a front of it, did, where it is `Whole` that all of that was heard
+  -- what hearing a packet, or the beginning of one, did; `Whole` says that all of that was heard
   abbrev pub HeardTo : {E : Type 0} → (Whole : Type 0) → (before after : Standing M)
       → (old new : Option (List ℕ)) → Result Amount E → Type 0
   HeardTo Whole before after old new (Ok amount.Whole) = Whole

@@ -4,7 +4,7 @@ use Rattle.std.specs.List.{flat_map}
 use Rattle.node_stepper.specs.Packets.{packets_of, whole}
 use Rattle.node_stepper.specs.Nodes.{cell_text}
 
--- the bytes of a packet: its cells, one behind the other
+-- the bytes of a packet: its cells, one after the other
 abbrev pub packet_text : List (List ℕ) → List ℕ
 packet_text packet = flat_map cell_text packet
 

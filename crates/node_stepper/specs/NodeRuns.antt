@@ -41,9 +41,9 @@ module _ (m : Machine) (nodes : Nodes) (begins : ℕ → ℕ) where
   abbrev pub states_in : (i : ℕ) → List State
   states_in i = map (state_in i) (range_with_len 0 m.nodes)
 
--- Each correct node begins in a state of it, and has packets for so many rounds. In each round the
--- cell of each other correct node is read as the state of that one after as many rounds, as it is
--- where that one wrote it. The cells of faulty nodes are any bytes, and so are all cells of the
+-- Each correct node begins in a state of its own, and has packets for so many rounds. In each round
+-- the cell of each other correct node is read as the state of that one after as many rounds, as it
+-- is if that one wrote it. The cells of faulty nodes are any bytes, and so are all cells of the
 -- packets before the window.
 pub record AreConnected (m : Machine) (faulty : List ℕ) (nodes : Nodes) (begins : ℕ → ℕ)
     (rounds : ℕ) : Type 0 where

@@ -4,7 +4,6 @@ use Rattle.std.specs.Prelude.{List, [], ◌∷◌, length, map, replicate, slice
 use Rattle.std.specs.List.{flat_map, range_with_len}
 use Rattle.sync_types.specs.States.{State, zero_state}
 use Rattle.construction.specs.Steps.{state_of}
-use Rattle.state_codec.specs.Shapes.{bytes_in}
 use Rattle.state_codec.specs.Writing.{written}
 use Rattle.state_codec.specs.Reading.{read}
 use Rattle.machines.specs.Machines.{Machine}
@@ -16,10 +15,6 @@ cell_text bytes = length bytes / 256 ∷ length bytes % 256 ∷ bytes
 -- ---- a node of a machine
 
 module _ (m : Machine) where
-  -- states of node v don't have so many bytes
-  abbrev pub IsOther : (v n : ℕ) → Type 0
-  IsOther v n = n ≢ bytes_in (m.fields v)
-
   -- the cell of a state of node v
   abbrev pub state_cell : (v : ℕ) → State → List ℕ
   state_cell v s = cell_text (written (m.fields v) s)

@@ -2,7 +2,8 @@
 use Rattle.std.specs.Prelude.{ℕ, zero, suc, ◌+◌, ◌*◌, List, [], ◌∷◌, length, take, drop, nat_le}
 use Rattle.std.specs.Prelude.{if◌then◌else◌, Option, Some, None, Result, Ok, Err}
 
--- the cell at the front, two bytes of length, high byte first, and so many bytes, and what follows
+-- the cell at the beginning, two bytes of length, high byte first, and so many bytes, and what
+-- follows
 abbrev pub cell_at : List ℕ → Option (List ℕ × List ℕ)
 cell_at [] = None
 cell_at (high ∷ []) = None
@@ -37,7 +38,7 @@ IsWithin (whole count) = Unit {0}
 IsWithin (cut packet sender) = Unit {0}
 IsWithin beyond = ⊥
 
--- the whole packets at the front, and how they end
+-- the whole packets at the beginning, and how they end
 pub record Packets : Type 0 where
   pub cells : List (List (List ℕ))
   pub ending : Ending

@@ -24,8 +24,8 @@ pub record AreFaultyMeanwhile (node : ℕ) (faulty meanwhile : List ℕ) : Type 
 -- are connected in the rest of the window, and the others in the whole one. There each is given, as
 -- the cell of each other one that is correct all the time, what that one writes, and as that of one
 -- which is faulty in the rest too, what is sent. What is sent to the one that is started anew goes
--- on behind what was sent to it before. Where all that is sent fits into cells, as states do, so
--- does what is sent before the rest and in it.
+-- on after what was sent to it before. If all that is sent fits into cells, as states do, so does
+-- what is sent before the rest and in it.
 pub record RestartConnects (m : Machine) (faulty meanwhile : List ℕ) (node after : ℕ)
     (starts : ℕ → State) (sent : ℕ → ℕ → ℕ → List ℕ) (begins : ℕ → ℕ) (rounds : ℕ)
     : Type 0 where
@@ -50,7 +50,7 @@ AnyRestartConnects = (m : Machine) → IsSound m → (faulty meanwhile : List �
     → ((v : ℕ) → IsCorrect m faulty v → IsState m v (starts v))
     → RestartConnects m faulty meanwhile node after starts sent begins rounds
 
--- the states in which nodes begin, where one goes on from its last state
+-- the states in which nodes begin, if one goes on from its last state
 abbrev pub starts_later : (node : ℕ) → (last : State) → (starts : ℕ → State) → ℕ → State
 starts_later node last starts v = if v == node then last else starts v
 

@@ -63,7 +63,7 @@ NodesInRoundsRun = (m : Machine) → IsSound m → (faulty : List ℕ) → IsBor
     → (rounds : ℕ) (said : (i v : ℕ) → List ℕ) (given : (i v u : ℕ) → List ℕ)
     → AreInRounds m faulty rounds said given → SayRun m faulty rounds said
 
--- From any locked round on they stay locked and count where states are lost.
+-- From any locked round on they stay locked and count when states are lost.
 abbrev pub NodesInRoundsStayLocked : Type 0
 NodesInRoundsStayLocked = (m : Machine) → IsSound m → (faulty : List ℕ) → IsBorne m faulty
     → (rounds : ℕ) (said : (i v : ℕ) → List ℕ) (given : (i v u : ℕ) → List ℕ)

@@ -33,10 +33,10 @@ module _ (m : Machine) (faulty : List ℕ) (at : ℕ → List State) where
     pub locked : (i : ℕ) → from ≤ i → i ≤ rounds → IsLocked m faulty (at i)
     pub counts : CountThrough from rounds
 
--- Connected nodes that begin in these states and are given these bytes: in packet t node v is
--- given `sent t v u` as the cell of a faulty node u, and before the window of each node u. As the
--- cell of a correct node it is given what that one writes after as many rounds. Each has just so
--- many packets, with a cell of each node.
+-- Connected nodes that begin in these states and are given these bytes: in packet t node v is given
+-- `sent t v u` as the cell of a faulty node u, and before the window of each node u. As the cell of
+-- a correct node it is given what that one writes after as many rounds. Each has exactly so many
+-- packets, with a cell of each node.
 pub record Connects (m : Machine) (faulty : List ℕ) (starts : ℕ → State)
     (sent : ℕ → ℕ → ℕ → List ℕ) (begins : ℕ → ℕ) (rounds : ℕ) : Type 0 where
   pub nodes : Nodes
@@ -68,7 +68,7 @@ NodesRun = (m : Machine) → IsSound m → (faulty : List ℕ) (nodes : Nodes) (
     (rounds : ℕ) → AreConnected m faulty nodes begins rounds
     → RunThrough m faulty (states_in m nodes begins) rounds
 
--- So many rounds later as the bound says they count.
+-- As many rounds later as the bound says, they count.
 abbrev pub NodesSettle : Type 0
 NodesSettle = (m : Machine) → IsSound m → (faulty : List ℕ) → IsBorne m faulty
     → (nodes : Nodes) (begins : ℕ → ℕ) (rounds : ℕ) → AreConnected m faulty nodes begins rounds
@@ -80,14 +80,14 @@ NodesLock = (m : Machine) → IsSound m → (faulty : List ℕ) → IsBorne m fa
     → (nodes : Nodes) (begins : ℕ → ℕ) (rounds : ℕ) → AreConnected m faulty nodes begins rounds
     → m.bound ≤ rounds → IsLocked m faulty (states_in m nodes begins m.bound)
 
--- Where they are locked they stay so, and count, whatever cells of faulty nodes follow.
+-- Once they are locked, they stay so, and count, whatever cells of faulty nodes follow.
 abbrev pub NodesStayLocked : Type 0
 NodesStayLocked = (m : Machine) → IsSound m → (faulty : List ℕ) → IsBorne m faulty
     → (nodes : Nodes) (begins : ℕ → ℕ) (rounds : ℕ) → AreConnected m faulty nodes begins rounds
     → (from : ℕ) → from ≤ rounds → IsLocked m faulty (states_in m nodes begins from)
     → StayLockedThrough m faulty (states_in m nodes begins) from rounds
 
--- So they do where states are lost, as long as each correct node hears those of N - F correct nodes
+-- So they do when states are lost, as long as each correct node hears those of N - F correct nodes
 -- in each round, itself among them.
 abbrev pub HeardNodesStayLocked : Type 0
 HeardNodesStayLocked = (m : Machine) → IsSound m → (faulty : List ℕ) → IsBorne m faulty

@@ -2,7 +2,7 @@
 use Rattle.std.specs.Prelude.{◌≡◌, ℕ, List, [], ◌∷◌, ◌++◌, Option, ◌⊎◌, Result, Ok, Err}
 use Rattle.std.specs.Io.KnownBytes.{Consumes, IsAtEnd}
 use Rattle.texts.specs.Causes.{Counted}
-use Rattle.texts.specs.Growth.{Told, Wrote, Cut}
+use Rattle.texts.specs.Growth.{SinkState, Wrote, Cut}
 use Rattle.texts.specs.Pending.{AllButLast}
 use Rattle.machines.specs.Machines.{Machine}
 use Rattle.node_stepper.specs.declared.faults.NodeFault.{NodeFault}
@@ -12,7 +12,7 @@ use Rattle.node_stepper.specs.Nodes.{Standing, own, nobody, state_cell, state_be
 
 -- which machine each counter is
 module _ {M : Type 0} (machine : M → Machine) where
-  -- the engine is the same node, behind these packets, and has heard nobody since
+  -- the engine is the same node, after these packets, and has heard nobody since
   pub record StandsBehind (before after : Standing M) (packets : List (List (List ℕ))) : Type 0
     where
       pub counter : after.counter ≡ before.counter
@@ -33,14 +33,15 @@ module _ {M : Type 0} (machine : M → Machine) where
     abbrev pub answer : List (List (List ℕ)) → List ℕ
     answer packets = node_text (machine before.counter) before.id (own before) packets
 
-    -- the node's cell behind these packets
+    -- the node's cell after these packets
     abbrev pub cell_behind : List (List (List ℕ)) → List ℕ
     cell_behind packets =
         state_cell (machine before.counter) before.id
         (state_behind (machine before.counter) before.id (own before) packets)
 
     -- these bytes were read, and a cell was written at the start and for each whole packet of them
-    pub record Served (after : Standing M) (old new : Option (List ℕ)) (s t : Told) : Type 0 where
+    pub record Served (after : Standing M) (old new : Option (List ℕ))
+        (s t : SinkState) : Type 0 where
       pub bytes : List ℕ
       pub read : Consumes old new bytes
       pub wrote : Wrote (answer (served bytes).cells) s t
@@ -48,17 +49,17 @@ module _ {M : Type 0} (machine : M → Machine) where
 
     -- All cells but the last were written, and that one was cut. The bytes end with its packet: no
     -- packet was read before the cells of those before it were written.
-    pub record LastCut (bytes : List ℕ) (s t : Told) : Type 0 where
+    pub record LastCut (bytes : List ℕ) (s t : SinkState) : Type 0 where
       pub done : List (List (List ℕ))
       pub packet : List (List ℕ)
-      pub mid : Told
+      pub mid : SinkState
       pub count : ℕ
       pub are : served bytes ≡ record { cells = done ++ packet ∷ []; ending = whole count }
       pub wrote : Wrote (answer done) s mid
       pub last : Cut (cell_behind (done ++ packet ∷ [])) mid t
 
     -- these bytes were read, and what was written is cut, whatever may follow
-    pub record ServedCut (after : Standing M) (old new : Option (List ℕ)) (s t : Told) : Type 0
+    pub record ServedCut (after : Standing M) (old new : Option (List ℕ)) (s t : SinkState) : Type 0
       where
         pub bytes : List ℕ
         pub read : Consumes old new bytes
@@ -68,7 +69,7 @@ module _ {M : Type 0} (machine : M → Machine) where
 
     -- What serving did. `TooLong` is answered at the first byte of packet 1,000,001, and a read
     -- fault comes only before it.
-    abbrev pub Serves : (after : Standing M) (old new : Option (List ℕ)) (s t : Told)
+    abbrev pub Serves : (after : Standing M) (old new : Option (List ℕ)) (s t : SinkState)
         → Result ℕ NodeFault → Type 0
     Serves after old new s t (Ok n) =
         (d : Served after old new s t) × ((served d.bytes).ending ≡ whole n) × IsAtEnd new

@@ -9,7 +9,7 @@ use sync_types::{NoMemory, NodeState};
 pub struct NodeEngine<M: Machine> {
     pub(crate) machine: M,
     pub(crate) id: u32,
-    // By place; the own one stands at the own place.
+    // By place; its own stands at its own place.
     states: Vec<NodeState>,
     // By place: who was heard since the last step.
     since: Vec<bool>,
@@ -53,7 +53,7 @@ impl<M: Machine> NodeEngine<M> {
         requires state { IsState (M.machine machine) id state }
         ensures { IfOk result (λ e. e ≡ begun M.machine machine id state) }
     {
-        machine.tell();
+        machine.facts();
         let nodes = machine.nodes();
         let depth = machine.depth();
         let mut states = NodeState::zeros(alloc, nodes, depth)?;
@@ -91,8 +91,8 @@ impl<M: Machine> NodeEngine<M> {
     }
 
     /// Hears a cell of a node, in place of an earlier one: the state that its bytes stand for,
-    /// which is the zero state where they are not just so many as a state of that node has. A cell
-    /// of the own id is dropped.
+    /// which is the zero state if they are not exactly as many as a state of that node has. A cell
+    /// of its own id is dropped.
     pub fn hear(&mut self, sender: u32, bytes: &[u8])
         requires { sender < (M.machine self.old.counter).nodes }
         ensures { self.new ≡ hearing M.machine self.old sender bytes.now }
@@ -105,8 +105,8 @@ impl<M: Machine> NodeEngine<M> {
         self.since[sender as usize] = true;
     }
 
-    /// Hears a cell that has just so many bytes as a state of its node, by `bytes` at whose front
-    /// they stand. Eight bytes more stand after them.
+    /// Hears a cell that has exactly as many bytes as a state of its node, by `bytes` that begin
+    /// with them. Eight more bytes stand after them.
     pub(crate) fn hear_front(&mut self, sender: u32, bytes: &[u8])
         requires sender { sender < (M.machine self.old.counter).nodes }
         requires within { bytes_in ((M.machine self.old.counter).fields sender) + 8
@@ -128,7 +128,7 @@ impl<M: Machine> NodeEngine<M> {
         requires { AllHeard M.machine self.old }
         ensures { self.new ≡ stepped M.machine self.old }
     {
-        self.machine.tell();
+        self.machine.facts();
         let heard = Heard::of(&self.states);
         self.machine
             .advance(self.id, &heard, &mut self.work, &mut self.next);

@@ -13,8 +13,8 @@ impl<M: Machine> NodeEngine<M> {
     ghost use Rattle.node_stepper.specs.Hearing.{BodyFed, WholeCell, CellFed, FirstHeard};
     ghost use Rattle.node_stepper.specs.Hearing.{PacketHeard, meets_end};
 
-    /// Hears the bytes of a cell, of which there are to be so many. Bytes that are not just so many
-    /// as a state of that node has are not kept.
+    /// Hears the bytes of a cell, of which there are to be so many. Bytes that are not exactly as
+    /// many as a state of that node has are not kept.
     fn hear_body<S: Source>(
         &mut self,
         feed: &mut Feed<'_, S>,
@@ -75,8 +75,8 @@ impl<M: Machine> NodeEngine<M> {
         self.hear_body(feed, sender, 256 * usize::from(high) + usize::from(low))
     }
 
-    /// Hears the next cell where it stands, if it has just so many bytes as a state of that node
-    /// has, and these stand whole in the buffer with eight bytes more behind them. Else nothing
+    /// Hears the next cell where it stands, if it has exactly as many bytes as a state of that
+    /// node, and these stand whole in the buffer with eight more bytes after them. Else nothing
     /// changes.
     // It is small, and called for each cell of each packet.
     #[inline(always)]
@@ -100,7 +100,7 @@ impl<M: Machine> NodeEngine<M> {
         true
     }
 
-    /// Hears the next cell: true where it was whole.
+    /// Hears the next cell: true if it was whole.
     // As above: the loop over a packet's cells has no other call.
     #[inline(always)]
     fn hear_cell<S: Source>(

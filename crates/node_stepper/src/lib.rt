@@ -2,7 +2,7 @@
 //!
 //! A cell is a state as bytes with its length before it, and a packet is a cell of each node. A
 //! [`NodeEngine`] hears cells and steps; [`NodeEngine::serve`] reads packets from a feed and writes
-//! its cell before the first and behind each. All memory is taken when the engine is made.
+//! its cell before the first and after each. All memory is taken when the engine is made.
 #![tactic(auto)]
 
 mod engine;

@@ -30,7 +30,7 @@ pub fn borne_leaves_some()
 /// Nodes that are connected for a window of rounds, so that each correct one hears the states of
 /// the other correct ones, are a run of the machine there: whatever bytes, of whatever length, they
 /// are given as the cells of faulty nodes, and whatever was before. The window begins in each node
-/// at a packet of its own, as where some were started anew while others went on.
+/// at a packet of its own, as when some were started anew while others went on.
 pub fn nodes_run()
     ensures { NodesRun }
 {}
@@ -51,7 +51,7 @@ pub fn nodes_stay_locked()
     ensures { NodesStayLocked }
 {}
 
-/// A sound machine stays locked, and counts, where states are lost: as long as each correct node
+/// A sound machine stays locked, and counts, when states are lost: as long as each correct node
 /// hears in each round the true states of N - F correct nodes, itself among them, whichever these
 /// are.
 pub fn losses_keep_locked()
@@ -89,7 +89,7 @@ pub fn nodes_in_rounds_run()
     ensures { NodesInRoundsRun }
 {}
 
-/// From any locked round on they stay locked and count where states are lost.
+/// From any locked round on they stay locked and count when states are lost.
 pub fn nodes_in_rounds_stay_locked()
     ensures { NodesInRoundsStayLocked }
 {}

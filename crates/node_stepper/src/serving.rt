@@ -27,8 +27,8 @@ impl<M: Machine> NodeEngine<M> {
         self.machine.write_state(self.id, self.state(), out);
     }
 
-    /// Writes the cell of its own state to the front of `out`, and answers how many bytes it has:
-    /// two more than the state.
+    /// Writes the cell of its own state at the beginning of `out`, and answers how many bytes it
+    /// has: two more than the state.
     fn write_cell(&self, out: &mut [u8; LONGEST_CELL]) -> usize
         ensures cell { take result out.new
             ≡ state_cell (M.machine self.now.counter) self.now.id (own self.now) }
@@ -53,12 +53,12 @@ impl<M: Machine> NodeEngine<M> {
     }
 
     /// Writes the cell of its state, and then hears packets, and writes the cell of its new state
-    /// behind each: the answer is how many these were. What was heard before is forgotten. Each
-    /// cell is written before any byte behind its packet is read of the feed.
+    /// after each: the answer is how many these were. What was heard before is forgotten. Each cell
+    /// is written before any byte after its packet is read of the feed.
     ///
-    /// `Cut` comes where the input ends inside a packet, and `TooLong` at the first byte of packet
-    /// 1,000,001. `ReadFault` and `WriteFault` come only where the source, or the sink, counted one
-    /// fault, and the first only before that byte. After an error the node stands behind the last
+    /// `Cut` comes if the input ends inside a packet, and `TooLong` at the first byte of packet
+    /// 1,000,001. `ReadFault` and `WriteFault` come only if the source, or the sink, counted one
+    /// fault, and the first only before that byte. After an error the node stands after the last
     /// whole packet, and has heard nobody since. It takes no memory.
     pub fn serve<S: Source, K: Sink>(
         &mut self,

@@ -1,4 +1,4 @@
--- What stands behind the lines of a part.
+-- What stands after the lines of a part.
 use Rattle.std.proofs.Common.{◌≡◌, ℕ, zero, suc, Bool, true, false, eqb, List, [], ◌∷◌, ◌++◌}
 use Rattle.std.proofs.Common.{length, refl, ap, arith}
 use Rattle.std.specs.List.{onto_first}
@@ -29,7 +29,7 @@ ended : (front : List ℕ) → Ended front
 ended [] = record { less = 0; lines = refl }
 ended (b ∷ front) = ended_by (eqb b 10) b front refl (ended front)
 
--- behind all lines of such a text stands what follows it
+-- after all lines of such a text stands what follows it
 behind_by : (newline : Bool) (b : ℕ) (front rest : List ℕ) → eqb b 10 ≡ newline
     → ((n : ℕ) → length (lines_of (front ++ 10 ∷ [])) ≡ n
     → behind_lines n (front ++ 10 ∷ rest) ≡ rest)

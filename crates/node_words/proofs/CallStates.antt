@@ -130,7 +130,7 @@ module _ {Reader Plan Premise : Type 0} (words : Words Reader Plan Premise)
       (behind_is_state m sound v correct.0 (nodes.starts v) (take t (nodes.packets v))
       (start_is_one v correct))
 
-  -- a cell that is given, where it is one that is written
+  -- a cell that is given, if it is one that is written
   pub given_is : (i v u : ℕ) → i < rounds → IsCorrect m faulty u
       → cell_written words m calls (begins u + i) u
       ≡ Some (cell_heard words (calls v) (begins v + i) u)

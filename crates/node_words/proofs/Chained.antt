@@ -1,9 +1,8 @@
--- One part of a header behind another.
+-- One part of a header after another.
 use Rattle.std.proofs.Common.{◌≡◌, ℕ, ◌+◌, ◌-◌, ◌^◌, Bool, true, false, List, [], ◌++◌, Option}
 use Rattle.std.proofs.Common.{Some, None, Result, Ok, Err, refl, sym, ap, ◌∙◌, append_assoc}
 use Rattle.std.proofs.Common.{length-append, subst, arith}
 use Rattle.std.proofs.KnownBytes.{Consumes-trans}
-use Rattle.texts.specs.Causes.{Counted}
 use Rattle.texts.specs.Lines.{lines_of, whole_lines}
 use Rattle.texts.specs.Limits.{by, room_of, behind_lines}
 use Rattle.texts.specs.Words.{open_rest}
@@ -13,21 +12,19 @@ use Rattle.edge_io.specs.declared.fed_parts.FedPart.{FedPart}
 use Rattle.edge_io.specs.declared.fed_parts.FedError.{FedError}
 use Rattle.edge_io.specs.declared.fed_parts.FedError.TheVariants as fed
 use Rattle.edge_io.specs.FedParts.{MayFollow, limited_part, Decided, Undecided, WholePart, LostPart}
-use Rattle.edge_io.specs.FedParts.{HaltedPart, PartFed, HasPartCause}
+use Rattle.edge_io.specs.FedParts.{HaltedPart, PartFed}
 use Rattle.sync_types.specs.declared.answers.Rule.{Rule}
 use Rattle.sync_types.specs.declared.answers.Rule.TheVariants as rule
 use Rattle.node_words.specs.declared.header_lines.NodeHeader.{NodeHeader}
 use Rattle.node_words.specs.declared.headers.HeaderRefusal.{HeaderRefusal}
 use Rattle.node_words.specs.declared.headers.HeaderRefusal.TheVariants as refusal
-use Rattle.node_words.specs.declared.headers.HeaderRead.{HeaderRead}
-use Rattle.node_words.specs.declared.headers.HeaderError.{HeaderError}
 use Rattle.node_words.specs.NodePart.{HeaderSoFar, nothing_read}
 use Rattle.state_codec.specs.Shapes.{Shape, IsShape}
 use Rattle.node_words.specs.HeaderParts.{PlanPart, HeaderOf, header_in, behind_plan}
 use Rattle.node_words.specs.HeaderParts.{behind_node}
 use Rattle.node_words.specs.FedHeaders.{HeaderPending, HeaderDecided, HeaderWhole, HeaderTooLong}
 use Rattle.node_words.specs.FedHeaders.{HeaderLost, HeaderHalted, HeaderFed, plan_failed}
-use Rattle.node_words.specs.FedHeaders.{node_failed, HasHeaderCause}
+use Rattle.node_words.specs.FedHeaders.{node_failed}
 use Rattle.node_words.specs.Fits.{IsFit}
 use Rattle.node_words.proofs.HeaderFits.{header_fits}
 use Rattle.node_words.proofs.PendingHeaders.{plan_line, node_line, PlanPending, NodePending}
@@ -166,7 +163,7 @@ module _ {Reader Plan Premise : Type 0} (plans : PlanPart Reader Plan Premise) w
               (room_of longer (2 ^ 20 - after)) (lines_of l))) none;
         }
 
-    -- memory runs out behind it
+    -- memory runs out after it
     pub halts_between : HeaderHalted plans s t
     halts_between =
         let d = w.decided in
@@ -309,28 +306,3 @@ module _ {Reader Plan Premise : Type 0} (plans : PlanPart Reader Plan Premise) w
             ∙ ap (behind_plan plans) (w.whole goes_on (d.decided.bytes ++ rest))
             ∙ ap (behind_node x.value x.lines) (d.whole open_end rest);
       }
-
--- ---- the faults that are counted
-
-pub plan_cause : (Plan Premise : Type 0) (before now : ℕ) (Dry : Type 0) (e : FedError Premise)
-    → HasPartCause before now Dry (let r : Result (FedPart Plan) (FedError Premise) = Err e in r)
-    → HasHeaderCause before now Dry
-    (let r : Result (HeaderRead Plan) (HeaderError Premise) = Err (plan_failed e) in
-    r)
-plan_cause Plan Premise before now Dry fed.ReadFault h = h
-plan_cause Plan Premise before now Dry fed.TooLong h = h
-plan_cause Plan Premise before now Dry (fed.Refused at) h = h
-plan_cause Plan Premise before now Dry fed.NoMemory h = h
-
-pub node_cause : (Plan Premise : Type 0) (before mid now : ℕ) (Part Dry : Type 0)
-    (e : FedError Rule) → mid ≡ before
-    → HasPartCause mid now Part (let r : Result (FedPart NodeHeader) (FedError Rule) = Err e in r)
-    → (Part → Dry)
-    → HasHeaderCause before now Dry
-    (let r : Result (HeaderRead Plan) (HeaderError Premise) = Err (node_failed e) in
-    r)
-node_cause Plan Premise before mid now Part Dry fed.ReadFault still h dry =
-    (subst (λ (n : ℕ). Counted n now) still h.0, dry h.1)
-node_cause Plan Premise before mid now Part Dry fed.TooLong still h dry = h ∙ still
-node_cause Plan Premise before mid now Part Dry (fed.Refused at) still h dry = h ∙ still
-node_cause Plan Premise before mid now Part Dry fed.NoMemory still h dry = h ∙ still

@@ -4,7 +4,7 @@ use Rattle.std.proofs.Common.{Err, sym, ap, ◌∙◌, subst, length-append, ari
 use Rattle.std.specs.Io.KnownBytes.{prepend_known, Keeps}
 use Rattle.std.proofs.lemmas.Bool.{lt-ltb}
 use Rattle.texts.specs.Causes.{Counted}
-use Rattle.texts.specs.Growth.{Told, Wrote, Cut}
+use Rattle.texts.specs.Growth.{SinkState, Wrote, Cut}
 use Rattle.texts.proofs.Growth.{wrote_none}
 use Rattle.texts.specs.Lines.{lines_of}
 use Rattle.texts.specs.Limits.{room_of}
@@ -22,7 +22,7 @@ use Rattle.node_words.proofs.Returns.{left_of, read_dry, reads_front, Input, inp
 module _ {Reader Plan Premise : Type 0} (words : Words Reader Plan Premise)
     (s f l : Option (List ℕ)) (held : List ℕ) (before now : ℕ) (keeps : Keeps s f) where
   -- a read failed in the header
-  pub header_lost : (t : Told) → HeaderLost words.part f (prepend_known held l) → held ≡ []
+  pub header_lost : (t : SinkState) → HeaderLost words.part f (prepend_known held l) → held ≡ []
       → Counted before now → NodeDoes words (Err error.ReadFault) s l before now t t
   header_lost t h dry cause = record {
     seen = h.bytes;
@@ -36,7 +36,8 @@ module _ {Reader Plan Premise : Type 0} (words : Words Reader Plan Premise)
   }
 
   -- it is too long
-  pub header_long : (t : Told) → HeaderTooLong words.part f (prepend_known held l) → now ≡ before
+  pub header_long : (t : SinkState) → HeaderTooLong words.part f (prepend_known held l)
+      → now ≡ before
       → NodeDoes words (Err error.TooLong) s l before now t t
   header_long t h still =
       let input = h.bytes ++ (held ++ left_of l) in
@@ -70,7 +71,7 @@ module _ {Reader Plan Premise : Type 0} (words : Words Reader Plan Premise)
         (d.decides (ltb (2 ^ 20) (length (d.bytes ++ whole_input.rest))) whole_input.rest
         whole_input.follows)
 
-    pub header_cut : (t u : Told) → Cut (header_line words r) t u
+    pub header_cut : (t u : SinkState) → Cut (header_line words r) t u
         → NodeDoes words (Err error.WriteFault) s l before now t u
     header_cut t u is =
         record {
@@ -80,7 +81,7 @@ module _ {Reader Plan Premise : Type 0} (words : Words Reader Plan Premise)
           cut = rw refused_is is;
         }
 
-    pub header_refused : (t u : Told) → Wrote (header_line words r) t u
+    pub header_refused : (t u : SinkState) → Wrote (header_line words r) t u
         → NodeDoes words (Err (error.Refused r)) s l before now t u
     header_refused t u is =
         record {

@@ -1,4 +1,4 @@
--- Inputs are bytes, where what is sent fits into cells.
+-- Inputs are bytes, if what is sent fits into cells.
 use Rattle.std.proofs.Common.{◌≡◌, ℕ, zero, suc, ◌<◌, List, [], ◌∷◌, ◌++◌, length, get_or, All}
 use Rattle.std.proofs.Common.{arith}
 use Rattle.std.specs.List.{flat_map}
@@ -19,7 +19,7 @@ IsByte byte = byte < 256
 abbrev pub PacketsFit : List (List (List ℕ)) → Type 0
 PacketsFit packets = All (All FitsCell) packets
 
--- packets behind a header
+-- packets after a header
 pub input_bytes : (header : List ℕ) (packets : List (List (List ℕ))) → AreBytes header
     → PacketsFit packets → AreBytes (header ++ flat_map packet_text packets)
 input_bytes header packets are fit =

@@ -1,4 +1,4 @@
--- Inputs of nodes over packets: the text of each one's header, and its packets behind it.
+-- Inputs of nodes over packets: the text of each one's header, and its packets after it.
 use Rattle.std.proofs.Common.{◌≡◌, ◌≢◌, ℕ, ◌+◌, ◌^◌, ◌<◌, ◌≤◌, Bool, true, List, [], ◌++◌, length}
 use Rattle.std.proofs.Common.{get_or, Some, Result, Ok, refl, sym, ap, subst, ◌∙◌, arith}
 use Rattle.std.specs.Prelude.{nat_lt}
@@ -30,7 +30,8 @@ use Rattle.node_words.specs.RestartInputs.{calls_of}
 use Rattle.node_words.proofs.InputBytes.{PacketsFit, input_bytes}
 
 -- A construction whose plans are sound machines with states that fit into cells, and the text of
--- each header, which is bytes, has so many lines, and is read as it at the front of any text.
+-- each header, which is bytes, has so many lines, and is read as that header at the beginning of
+-- any text.
 pub record AreWritten {Reader Plan Premise : Type 0} (words : Words Reader Plan Premise)
     (Accepted : Plan → Type 0) (lines : Plan → ℕ) (text : Plan → (v : ℕ) → State → List ℕ)
     : Type 0 where
@@ -43,8 +44,8 @@ pub record AreWritten {Reader Plan Premise : Type 0} (words : Words Reader Plan 
       ≡ Ok (header_stated (lines plan) plan v s))
       × (behind_lines (lines plan) (text plan v s ++ rest) ≡ rest)
 
--- Each correct node begins in a state of its own, and has just so many packets, not too many, with
--- a cell of each node.
+-- Each correct node begins in a state of its own, and has exactly so many packets, not too many,
+-- with a cell of each node.
 pub record AreFed (m : Machine) (faulty : List ℕ) (nodes : Nodes) (count : ℕ → ℕ) : Type 0 where
   pub starts : (v : ℕ) → IsCorrect m faulty v → IsState m v (nodes.starts v)
   pub long : (v : ℕ) → IsCorrect m faulty v → length (nodes.packets v) ≡ count v
@@ -172,7 +173,7 @@ module _ {Reader Plan Premise : Type 0} (words : Words Reader Plan Premise)
           outcome_is v correct.0 (nodes.starts v) (fed.starts v correct) (nodes.packets v)
           (fed.full v correct) (few_packets v correct)
 
-      -- they are bytes, where their packets fit into cells
+      -- they are bytes, if their packets fit into cells
       pub are_bytes : (v : ℕ) → PacketsFit (nodes.packets v) → AreBytes (inputs v)
       are_bytes v fit =
           input_bytes (texts_by text plans v (nodes.starts v)) (nodes.packets v)

@@ -83,7 +83,7 @@ module _ (shape : Shape) (v : ℕ) (s : State) (is : IsWritable shape v s) where
   plain_4 : ArePlain (codes "end" ∷ [])
   plain_4 = (record { some = omega arith; above = refl }, tt)
 
-  -- none has a newline, so behind four lines is what follows
+  -- none has a newline, so after four lines is what follows
   pub behind_part : (rest : List ℕ) → behind_lines 4 (node_part_in shape v s ++ rest) ≡ rest
   behind_part rest =
       let last = line_4 ++ 10 ∷ rest in
@@ -131,7 +131,7 @@ module _ (shape : Shape) (v : ℕ) (s : State) (is : IsWritable shape v s) where
       part_from (with_skips header_step rule.Form) rule.Form (at reached) taken number
       (lines_of text)
 
-  -- the part is read at the front of any text
+  -- the part is read at the beginning of any text
   pub part_is_read : (number : ℕ) (rest : List ℕ)
       → read_on stage.Unread 0 number (node_part_in shape v s ++ rest)
       ≡ Ok (record { value = node; taken = 4; behind = lines_of rest })

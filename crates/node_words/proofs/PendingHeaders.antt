@@ -24,7 +24,7 @@ plan_line plans = with_skips plans.step plans.form
 abbrev pub node_line : HeaderSoFar → List ℕ → Next HeaderSoFar NodeHeader Rule
 node_line = with_skips header_step rule.Form
 
--- what is so of all bytes but the last is so behind others
+-- what is so of all bytes but the last is so after others
 module _ (P Q : List ℕ → Type 0) (front : List ℕ)
     (from : (bs : List ℕ) → P bs → Q (front ++ bs)) where
   pub all_but_last : (bytes : List ℕ) → AllButLast P bytes → AllButLast Q (front ++ bytes)

@@ -32,7 +32,7 @@ pub few_later : (node after : ℕ) (begins : ℕ → ℕ) (rounds most : ℕ)
 few_later node after begins rounds most few v =
     few_by (v == node) (begins v) after rounds most (few v)
 
--- where a node is that is correct all the time
+-- where the rest begins in a node that is correct all the time
 pub later_is : (m : Machine) (faulty meanwhile : List ℕ) (node after : ℕ) (begins : ℕ → ℕ)
     → AreFaultyMeanwhile node faulty meanwhile → (v : ℕ) → IsCorrect m meanwhile v
     → begins_later node after begins v ≡ begins v + after

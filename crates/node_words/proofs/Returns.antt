@@ -4,13 +4,13 @@ use Rattle.std.proofs.Common.{length, take, drop, Option, Some, None, Result, re
 use Rattle.std.proofs.Common.{subst, append_assoc, append-nil, length-append, arith}
 use Rattle.std.specs.Io.KnownBytes.{prepend_known, Consumes, Keeps, IsAtEnd}
 use Rattle.std.proofs.lemmas.Bool.{le-ltb}
-use Rattle.texts.specs.Growth.{Told}
+use Rattle.texts.specs.Growth.{SinkState}
 use Rattle.edge_io.specs.FedParts.{MayFollow}
 use Rattle.node_words.specs.declared.errors.NodeError.{NodeError}
 use Rattle.node_words.specs.Constructions.{Words}
 use Rattle.node_words.specs.Conduct.{Holds, ReadsFront, ReadsAll, NodeDoes, LeavesUnmet}
 
--- what is left, where it is told
+-- what is left, if it is known
 pub left_of : Option (List ℕ) → List ℕ
 left_of None = []
 left_of (Some left) = left
@@ -36,7 +36,7 @@ read_dry s f l held bytes keeps read dry =
     subst (Consumes s l) (ap (λ (h : List ℕ). bytes ++ h) dry ∙ append-nil bytes)
     (read_of s f l held bytes keeps read)
 
--- a front of an input was read, of which that much follows what was read of the feed
+-- a prefix of an input was read, of which that much follows what was read of the feed
 pub reads_front : (s f l : Option (List ℕ)) (held bytes : List ℕ) → Keeps s f
     → Consumes f (prepend_known held l) bytes → ReadsFront s l (bytes ++ (held ++ left_of l))
 reads_front s f l held bytes keeps read = record {
@@ -101,7 +101,7 @@ input_of false s f l held bytes short keeps read end =
 pub none_held : (at end : ℕ) (buffer : List ℕ) → at ≡ end → take (end - at) (drop at buffer) ≡ []
 none_held at end buffer e = let none : end - at ≡ 0 = omega (arith, e) in rw none refl
 
--- so it is behind a read that failed
+-- so it is after a read that failed
 pub dry_held : (at end : ℕ) (buffer : List ℕ) (Met : Type 0) → (at ≡ end) × Met
     → take (end - at) (drop at buffer) ≡ []
 dry_held at end buffer Met dry = none_held at end buffer (dry.0)
@@ -109,7 +109,7 @@ dry_held at end buffer Met dry = none_held at end buffer (dry.0)
 -- the source that was lent ends as what stands under its name
 pub does_end : {Reader Plan Premise X : Type 0} (words : Words Reader Plan Premise)
     (left : X → Option (List ℕ)) (faults : X → ℕ) (r : Result ℕ (NodeError Premise))
-    (start final now : X) (lent other : ℕ) (t u : Told)
+    (start final now : X) (lent other : ℕ) (t u : SinkState)
     → (lent ≡ other → final ≡ now) → lent ≡ other
     → NodeDoes words r (left start) (left now) (faults start) (faults now) t u
     → NodeDoes words r (left start) (left final) (faults start) (faults final) t u

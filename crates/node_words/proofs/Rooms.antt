@@ -26,14 +26,14 @@ one_less : (lines more : ℕ) (room : Option ℕ) (line : List ℕ) → HasRoom 
 one_less lines more None line has = tt
 one_less lines more (Some left) line has = omega (arith, cost_most line)
 
--- what becomes of a part, with the room behind it
+-- what becomes of a part, with the room after it
 abbrev with_left : {V R : Type 0} → Option ℕ → Result (Found V) (At R) → LimitedPart V R
 with_left left (Ok found) =
     Ok (record { value = (left, found.value); taken = found.taken; behind = found.behind })
 with_left left (Err at) = Err (record { line = at.line; rule = by at.rule })
 
 module _ {S V R : Type 0} (step : S → List ℕ → Next S V R) (form : R) where
-  -- a part has a line at least
+  -- a part has at least one line
   abbrev TakesSome : (lines : List (List ℕ)) → Type 0
   TakesSome lines = (s : S) (taken number : ℕ) (found : Found V)
       → part_from step form s taken number lines ≡ Ok found → taken < found.taken
@@ -57,7 +57,7 @@ module _ {S V R : Type 0} (step : S → List ℕ → Next S V R) (form : R) wher
   takes_some (line ∷ lines) s taken number found is =
       some_by lines (takes_some lines) taken number found (step s line) is
 
-  -- it is found where each of its lines is shown
+  -- it is found if each of its lines is shown
   pub record Within (lines : List (List ℕ)) (s : S) (taken number : ℕ) (room : Option ℕ)
       (more : ℕ) (found : Found V) : Type 0 where
     pub left : Option ℕ

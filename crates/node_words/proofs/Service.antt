@@ -8,7 +8,7 @@ use Rattle.std.proofs.lemmas.Bool.{le-ltb}
 use Rattle.texts.specs.Causes.{Counted}
 use Rattle.texts.proofs.Causes.{never_counted}
 use Rattle.texts.specs.Limits.{behind_lines}
-use Rattle.texts.specs.Growth.{Told, Wrote, Cut}
+use Rattle.texts.specs.Growth.{SinkState, Wrote, Cut}
 use Rattle.edge_io.specs.FedParts.{MayFollow}
 use Rattle.machines.specs.Machines.{Machine}
 use Rattle.node_words.specs.declared.headers.HeaderRead.{HeaderRead}
@@ -30,7 +30,7 @@ use Rattle.node_words.proofs.Engines.{IsNodeOf}
 
 module _ {Reader Plan Premise M : Type 0} (words : Words Reader Plan Premise)
     (machine : M → Machine) (s f m l : Option (List ℕ)) (held : List ℕ) (before now : ℕ)
-    (keeps : Keeps s f) (t u : Told) (x : HeaderRead Plan) (w : HeaderWhole words.part f m x)
+    (keeps : Keeps s f) (t u : SinkState) (x : HeaderRead Plan) (w : HeaderWhole words.part f m x)
     (e after : Standing M) (node : IsNodeOf words machine w.header e)
     (goes_on : x.ended ≡ false) where
   open_end : w.decided.ended ≡ false
@@ -140,7 +140,7 @@ module _ {Reader Plan Premise M : Type 0} (words : Words Reader Plan Premise)
     cut = subst (λ (text : List ℕ). Cut text t u) (sym (text_is (d.bytes ++ more))) (d.cut more);
   }
 
--- the cause of a service behind a header
+-- the cause of a service after a header
 pub cause_of : (r : Result ℕ NodeFault) (before mid now : ℕ) (Dry : Type 0) (held : List ℕ)
     → (Dry → held ≡ []) → mid ≡ before → HasServeCause mid now Dry r
     → HasServeCause before now (held ≡ []) r
@@ -151,7 +151,7 @@ cause_of (Err fault.WriteFault) before mid now Dry held none same h = h ∙ same
 cause_of (Err fault.ReadFault) before mid now Dry held none same h =
     (subst (λ n. Counted n now) same (h.0), none (h.1))
 
--- ---- the service behind a header with which the input ended
+-- ---- the service after a header with which the input ended
 
 no_bytes : (n m : Option (List ℕ)) (bytes : List ℕ) → Keeps (Some []) n → Consumes n m bytes
     → bytes ≡ []
@@ -161,7 +161,7 @@ no_bytes (Some ys) (Some zs) bytes keeps read = (nothing_left bytes zs (sym read
 
 module _ {Reader Plan Premise M : Type 0} (words : Words Reader Plan Premise)
     (machine : M → Machine) (s f l : Option (List ℕ)) (held : List ℕ) (before now : ℕ)
-    (keeps : Keeps s f) (t u : Told) (x : HeaderRead Plan)
+    (keeps : Keeps s f) (t u : SinkState) (x : HeaderRead Plan)
     (w : HeaderWhole words.part f (prepend_known held l) x) (e after : Standing M)
     (node : IsNodeOf words machine w.header e) (over : x.ended ≡ true) (still : now ≡ before)
   where
@@ -239,7 +239,7 @@ service_touches Premise (Err fault.WriteFault) old new = tt
 service_touches Premise (Err (fault.Cut packet sender)) old new = tt
 service_touches Premise (Err fault.TooLong) old new = tt
 
--- where a read of it failed, the end was not met
+-- if a read of it failed, the end was not met
 pub service_unmet : (Premise : Type 0) (r : Result ℕ NodeFault) (count counted : ℕ) (Dry : Type 0)
     (before now : Bool)
     → HasServeCause count counted Dry r → (Dry → now ≡ before)

@@ -16,6 +16,7 @@ use Rattle.edge_io.specs.FedParts.{limited_part}
 use Rattle.sync_types.specs.declared.answers.Rule.{Rule}
 use Rattle.sync_types.specs.declared.answers.Rule.TheVariants as rule
 use Rattle.node_words.specs.declared.header_lines.NodeHeader.{NodeHeader}
+use Rattle.node_words.specs.declared.headers.HeaderRefusal.{HeaderRefusal}
 use Rattle.node_words.specs.declared.headers.HeaderRefusal.TheVariants as refusal
 use Rattle.node_words.specs.NodePart.{header_step, nothing_read}
 use Rattle.node_words.specs.HeaderParts.{PlanPart, HeaderOf, behind_node, behind_plan, header_in}
@@ -26,8 +27,8 @@ use Rattle.node_words.specs.NodeAnswers.{node_outcome}
 use Rattle.node_words.specs.Calls.{whole, header_of}
 use Rattle.node_words.specs.Skips.{with_line, moved_header, IsShort}
 use Rattle.node_words.specs.Skips.{HeaderSkipsAreUnseen}
-use Rattle.node_words.proofs.SkippedLines.{Answer, Moves, IsBlind, at_end, end_is_blind, behind}
-use Rattle.node_words.proofs.SkippedLines.{then_next, part_is_blind, goes_on}
+use Rattle.node_words.proofs.SkippedLines.{Moves, IsBlind, behind, then_next, part_is_blind, stays}
+use Rattle.node_words.proofs.SkippedLines.{goes_on}
 use Rattle.node_words.proofs.ShortInputs.{short_inputs}
 
 -- ---- what is decided within a limit is so without one
@@ -75,7 +76,27 @@ module _ {S V R : Type 0} (step : S → List ℕ → Next S V R) (form : R) wher
 
 module _ {Reader Plan Premise : Type 0} (plans : PlanPart Reader Plan Premise) where
   abbrev Read : Type 0
-  Read = Answer Plan Premise
+  Read = Result (HeaderOf Plan) (Option (HeaderRefusal Premise))
+
+  -- the end of a header, whose lines stand before this number
+  abbrev at_end : (plan : Plan) → (node : NodeHeader) → (number : ℕ) → List (List ℕ) → Read
+  at_end plan node number lines = Ok (record { plan = plan; node = node; lines = number - 1 })
+
+  as_lines : (plan : Plan) (node : NodeHeader) {a b : ℕ} → a ≡ b
+      → (let r : Read = Ok (record { plan = plan; node = node; lines = a }) in r)
+      ≡ Ok (record { plan = plan; node = node; lines = b })
+  as_lines plan node same =
+      ap (λ n. let r : Read = Ok (record { plan = plan; node = node; lines = n }) in r) same
+
+  end_is_blind : (line : List ℕ) (plan : Plan) (node : NodeHeader)
+      → IsBlind moved_header line (at_end plan node)
+  end_is_blind line plan node = record {
+    later = λ k number lines lt.
+        let one : number + 1 - 1 ≡ number - 1 + 1 = omega (arith, lt) in
+        as_lines plan node (one ∙ sym (goes_on k (number - 1) (omega (arith, lt))));
+    among = λ before lines k number at.
+        as_lines plan node (sym (stays k (number - 1) (omega (arith, at))));
+  }
 
   abbrev refuse_plan : At Premise → Read
   refuse_plan at = Err (Some (refusal.Plan at.line at.rule))
@@ -102,8 +123,7 @@ module _ {Reader Plan Premise : Type 0} (plans : PlanPart Reader Plan Premise) w
       → behind_node plan taken r ≡ behind refuse_node (at_end plan) (1 + taken) s
   node_is plan taken (Ok found) s is short =
       let one : taken + found.taken ≡ 1 + taken + found.taken - 1 = omega arith in
-      ap (λ n.
-      let h : Read = Ok (record { plan = plan; node = found.value.1; lines = n }) in h) one
+      as_lines plan found.value.1 one
       ∙ ap (behind refuse_node (at_end plan) (1 + taken)) (sym is)
   node_is plan taken (Err at) s is short = by_rules at.line at.rule is short where
     by_rules : (line : ℕ) (r : Limited Rule) → by_rule line r s
@@ -151,18 +171,18 @@ module _ {Reader Plan Premise : Type 0} (plans : PlanPart Reader Plan Premise) w
         → with_skips step form s line ≡ goes s
     passes step form s = rw (le-ltb 4096 (length line) short, skipped) refl
 
-    plan_moves : Moves refuse_plan
+    plan_moves : Moves moved_header refuse_plan
     plan_moves k number premise = refl
 
-    node_moves : Moves refuse_node
+    node_moves : Moves moved_header refuse_node
     node_moves k number rule = refl
 
-    plain_is_blind : IsBlind line plain
+    plain_is_blind : IsBlind moved_header line plain
     plain_is_blind =
-        part_is_blind line (with_skips plans.step plans.form) plans.form
+        part_is_blind moved_header line (with_skips plans.step plans.form) plans.form
         (passes plans.step plans.form) refuse_plan plan_moves node_from
         (λ plan.
-        part_is_blind line (with_skips header_step rule.Form) rule.Form
+        part_is_blind moved_header line (with_skips header_step rule.Form) rule.Form
         (passes header_step rule.Form) refuse_node node_moves (at_end plan)
         (end_is_blind line plan) (nothing_read (plans.shape plan)))
         plans.unread
@@ -188,7 +208,7 @@ lines_are (line ∷ before) rest are =
     ∙ line_first line (text_of before ++ rest) (All-head IsOne line before are)
     ∙ ap (λ lines. line ∷ lines) (lines_are before rest (All-tail IsOne line before are))
 
--- what stands behind so many lines stands there with the new one too
+-- what stands after so many lines stands there with the new one too
 behind_are : (before : List (List ℕ)) (line rest : List ℕ) → AreLines before
     → is_one_line line ≡ true → (m : ℕ) → length before ≤ m
     → behind_lines (m + 1) (with_line before line rest) ≡ behind_lines m (text_of before ++ rest)
@@ -240,9 +260,7 @@ module _ {Reader Plan Premise : Type 0} (words : Words Reader Plan Premise)
         ≡ Ok (record { plan = h.plan; node = h.node; lines = h.lines + 1 })
     header_new =
         header ∙ ap (λ r. moved_header n r) is
-        ∙ ap (λ k.
-        let r : Read words.part = Ok (record { plan = h.plan; node = h.node; lines = k }) in r)
-        (goes_on n h.lines lt)
+        ∙ as_lines words.part h.plan h.node (goes_on n h.lines lt)
 
     outcome : node_outcome words new ≡ node_outcome words old
     outcome =

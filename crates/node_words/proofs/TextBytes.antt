@@ -77,7 +77,7 @@ text_of (word text) = text
 text_of (count n) = decimal n
 text_of (bytes text are) = text
 
--- the pieces, one behind the other
+-- the pieces, one after the other
 abbrev pub joined : List Piece → List ℕ
 joined [] = []
 joined (piece ∷ pieces) = text_of piece ++ joined pieces

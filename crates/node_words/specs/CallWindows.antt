@@ -81,7 +81,7 @@ module _ {Reader Plan Premise : Type 0} (words : Words Reader Plan Premise) (m :
       → CallsConnect words m faulty calls begins rounds
       → NodesKeepPromise words m faulty calls begins rounds
 
-  -- From any locked configuration on, calls stay locked and count where cells are lost, as long as
+  -- From any locked configuration on, calls stay locked and count when cells are lost, as long as
   -- each correct node is given in each round the cells of N - F correct nodes, its own among them.
   abbrev pub HeardCallsStayLocked : Type 0
   HeardCallsStayLocked = (faulty : List ℕ) → IsBorne m faulty → SomeIsCorrect m faulty

@@ -2,7 +2,7 @@
 use Rattle.std.specs.Prelude.{◌≡◌, ⊤, ℕ, ◌^◌, List, [], slice_index_or, Option, None, Result}
 use Rattle.std.specs.Prelude.{Ok, Err}
 use Rattle.std.specs.Io.KnownBytes.{Consumes}
-use Rattle.texts.specs.Growth.{Told, Wrote}
+use Rattle.texts.specs.Growth.{SinkState, Wrote}
 use Rattle.texts.specs.Lines.{lines_of, whole_lines}
 use Rattle.texts.specs.Limits.{room_in, behind_lines}
 use Rattle.machines.specs.Machines.{Machine}
@@ -14,7 +14,7 @@ use Rattle.node_words.specs.Constructions.{Words}
 use Rattle.node_words.specs.NodeAnswers.{packets_for, node_outcome, node_so_far}
 use Rattle.node_words.specs.Conduct.{ReadsPart, comes_to_end, NodeDoes}
 
--- A call of a node, by the bytes that it read: they are its input, or a read failed behind them.
+-- A call of a node, by the bytes that it read: they are its input, or a read failed after them.
 pub data Call : Type 0 where
   whole : List ℕ → Call
   failed : List ℕ → Call
@@ -29,7 +29,7 @@ module _ {Reader Plan Premise : Type 0} (words : Words Reader Plan Premise) wher
   header_of (whole input) = header_in words.part (room_in (2 ^ 20) input) (lines_of input)
   header_of (failed seen) = header_in words.part None (whole_lines seen)
 
-  -- the whole packets behind it
+  -- the whole packets after it
   abbrev pub packets_behind : List ℕ
       → Result (HeaderOf Plan) (Option (HeaderRefusal Premise)) → List (List (List ℕ))
   packets_behind bytes (Err refused) = []
@@ -74,7 +74,7 @@ HasRead ended left left' (failed seen) =
 module _ {Reader Plan Premise : Type 0} (words : Words Reader Plan Premise) where
   -- one of these calls was made, and its text was written
   pub record IsCall (ended : Result ℕ (NodeError Premise)) (left left' : Option (List ℕ))
-      (old new : Told) : Type 0 where
+      (old new : SinkState) : Type 0 where
     pub call : Call
     pub read : HasRead ended left left' call
     pub wrote : Wrote (text_of words call) old new
@@ -82,5 +82,5 @@ module _ {Reader Plan Premise : Type 0} (words : Words Reader Plan Premise) wher
   -- what a node does that ends so is such a call
   abbrev pub CallsWriteTexts : Type 0
   CallsWriteTexts = (ended : Result ℕ (NodeError Premise)) → HasWrittenAll ended
-      → (left left' : Option (List ℕ)) (before now : ℕ) (old new : Told)
+      → (left left' : Option (List ℕ)) (before now : ℕ) (old new : SinkState)
       → NodeDoes words ended left left' before now old new → IsCall ended left left' old new

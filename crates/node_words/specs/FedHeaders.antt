@@ -24,8 +24,7 @@ refused_line (refusal.Node line rule) = line
 
 module _ {Reader Plan Premise : Type 0} (plans : PlanPart Reader Plan Premise) where
   -- These bytes do not show what decides the header: none of their whole lines ends it or is
-  -- refused,
-  -- so that these lines alone would be refused at the line behind them, for want of an end.
+  -- refused, so that these lines alone would be refused at the line after them, for want of an end.
   pub record HeaderPending (bytes : List ℕ) : Type 0 where
     pub refusal : HeaderRefusal Premise
     pub lines : header_in plans None (whole_lines bytes) ≡ Err (Some refusal)
@@ -33,8 +32,7 @@ module _ {Reader Plan Premise : Type 0} (plans : PlanPart Reader Plan Premise) w
     pub room : MayGoOn (2 ^ 20) 0 bytes
 
   -- These bytes were read, and show what decides the header, whatever may follow. That is the last
-  -- of
-  -- them, with which a line shows, or the end.
+  -- of them, with which a line shows, or the end.
   pub record HeaderDecided (old new : Option (List ℕ))
       (outcome : Result (HeaderOf Plan) (Option (HeaderRefusal Premise))) : Type 0 where
     pub bytes : List ℕ
@@ -58,7 +56,7 @@ module _ {Reader Plan Premise : Type 0} (plans : PlanPart Reader Plan Premise) w
     pub whole : decided.ended ≡ false → (rest : List ℕ)
         → header_in plans None (whole_lines (decided.bytes ++ rest)) ≡ Ok header
 
-  -- they do not show what decides it, and the last of them is the one behind the limit
+  -- they do not show what decides it, and the last of them is the one after the limit
   pub record HeaderTooLong (old new : Option (List ℕ)) : Type 0 where
     pub bytes : List ℕ
     pub read : Consumes old new bytes
@@ -89,7 +87,7 @@ module _ {Reader Plan Premise : Type 0} (plans : PlanPart Reader Plan Premise) w
   HeaderFed old new (Err error.ReadFault) = HeaderLost old new
   HeaderFed old new (Err error.NoMemory) = HeaderHalted old new
 
--- why no header was read, where its plan was not read, or its node was not
+-- why no header was read, if its plan was not read, or its node was not
 abbrev pub plan_failed : {Premise : Type 0} → FedError Premise → HeaderError Premise
 plan_failed fed.ReadFault = error.ReadFault
 plan_failed fed.TooLong = error.TooLong

@@ -57,7 +57,7 @@ module _ {Reader Plan Premise : Type 0} (plans : PlanPart Reader Plan Premise) w
       (limited_part (with_skips header_step rule.Form) rule.Form (nothing_read (plans.shape plan))
       0 (1 + found.taken) (found.value.0) found.behind)
 
-  -- the header of these lines, where so many bytes may be read
+  -- the header of these lines, if so many bytes may be read
   abbrev pub header_in : Option ℕ → List (List ℕ)
       → Result (HeaderOf Plan) (Option (HeaderRefusal Premise))
   header_in room lines =

@@ -25,7 +25,7 @@ abbrev pub header_stated : Plan → (v : ℕ) → State → Header
 header_stated plan v s = stated_header plan_part plan_writing plan v s
 
 -- The header text of an accepted plan, a node of it and a state of that node is read as that
--- header, at the front of any text, also of one that is longer than a header may be.
+-- header, at the beginning of any text, also of one that is longer than a header may be.
 abbrev pub HeaderTextIsRead : Type 0
 HeaderTextIsRead = (plan : Plan) → IsAccepted plan → (v : ℕ) → v < plan_nodes plan → (s : State)
     → IsState plan v s → (longer : Bool) (rest : List ℕ)

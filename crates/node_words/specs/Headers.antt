@@ -24,7 +24,7 @@ Header = HeaderOf Plan
 abbrev pub HeaderRefusal : Type 0
 HeaderRefusal = declared.HeaderRefusal Premise
 
--- the header of these lines, where so many bytes may be read, or the refusal of a line; None: the
+-- the header of these lines, if so many bytes may be read, or the refusal of a line; None: the
 -- header is too long
 abbrev pub header_in : Option ℕ → List (List ℕ) → Result Header (Option HeaderRefusal)
 header_in = any.header_in plan_part

@@ -35,7 +35,7 @@ module _ {Reader Plan Premise : Type 0} (words : Words Reader Plan Premise) (lin
   -- Inputs of connected calls whose nodes begin in these states and are given these bytes: in
   -- packet t node v is given `sent t v u` as the cell of a faulty node u, and before the window of
   -- each node u. Each call answers all packets of its window, and its input ends there. The inputs
-  -- are bytes, where what is sent fits into cells.
+  -- are bytes, if what is sent fits into cells.
   pub record InputsConnect (m : Machine) (plans : ℕ → Plan) (faulty : List ℕ)
       (starts : ℕ → State) (sent : ℕ → ℕ → ℕ → List ℕ) (begins : ℕ → ℕ) (rounds : ℕ)
       : Type 0 where

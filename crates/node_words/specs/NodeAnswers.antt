@@ -1,4 +1,4 @@
--- What a node makes of an input: a header, and behind it packets.
+-- What a node makes of an input: a header, and after it packets.
 use Rattle.std.specs.Prelude.{ℕ, ◌+◌, ◌^◌, ◌≤◌, List, [], length, Option, Some, None, Result, Ok}
 use Rattle.std.specs.Prelude.{Err}
 use Rattle.texts.specs.Lines.{lines_of, whole_lines}
@@ -15,7 +15,7 @@ use Rattle.node_words.specs.declared.errors.NodeError.TheVariants as error
 use Rattle.node_words.specs.Constructions.{Words}
 use Rattle.node_words.specs.Rules.{header_line}
 
--- how a call ends where no read or write fails, and the text that is written
+-- how a call ends if no read or write fails, and the text that is written
 pub record Outcome (Premise : Type 0) : Type 0 where
   pub ended : Result ℕ (NodeError Premise)
   pub text : List ℕ
@@ -49,7 +49,7 @@ module _ {Reader Plan Premise : Type 0} (words : Words Reader Plan Premise) wher
   abbrev pub packets_for : HeaderOf Plan → List ℕ → Packets
   packets_for h bytes = packets_of (words.machine h.plan).nodes 1000000 0 bytes
 
-  -- the node's cells: at the start, and behind each whole packet
+  -- the node's cells: at the start, and after each whole packet
   abbrev pub cells_for : HeaderOf Plan → Packets → List ℕ
   cells_for h packets =
       node_text (words.machine h.plan) h.node.id h.node.state packets.cells
@@ -68,14 +68,14 @@ module _ {Reader Plan Premise : Type 0} (words : Words Reader Plan Premise) wher
   node_outcome input =
       behind_header input (header_in words.part (room_in (2 ^ 20) input) (lines_of input))
 
-  -- these bytes are a whole header, which is not too long, and none of the bytes behind it is of a
+  -- these bytes are a whole header, which is not too long, and none of the bytes after it is of a
   -- packet too many
   pub record PacketsPending (seen : List ℕ) (h : HeaderOf Plan) : Type 0 where
     pub header : length seen ≤ 2 ^ 20 + length (behind_lines h.lines seen)
     pub packets : IsWithin (packets_for h (behind_lines h.lines seen)).ending
 
   -- Bytes that do not show what decides an input: they do not show what decides its header, or do
-  -- not show what decides the packets behind it.
+  -- not show what decides the packets after it.
   abbrev pub pending_behind : (seen : List ℕ)
       → Result (HeaderOf Plan) (Option (HeaderRefusal Premise)) → Type 0
   pending_behind seen (Err refused) = HeaderPending words.part seen
@@ -84,7 +84,7 @@ module _ {Reader Plan Premise : Type 0} (words : Words Reader Plan Premise) wher
   abbrev pub IsNodePending : List ℕ → Type 0
   IsNodePending seen = pending_behind seen (header_in words.part None (whole_lines seen))
 
-  -- what is written where a read fails behind these bytes: the cells, once the header is whole
+  -- what is written if a read fails after these bytes: the cells, once the header is whole
   abbrev pub cells_so_far : List ℕ → Result (HeaderOf Plan) (Option (HeaderRefusal Premise))
       → List ℕ
   cells_so_far seen (Err refused) = []

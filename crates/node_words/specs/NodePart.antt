@@ -44,7 +44,7 @@ abbrev pub state_word : List (List ℕ) → Option (List ℕ)
 state_word (key ∷ word ∷ []) = if bytes_eq key (codes "state") then Some word else None
 state_word other = None
 
--- the state of hex digits, where they are just those of a state with these fields
+-- the state of hex digits, if they are exactly those of a state with these fields
 abbrev pub state_of_digits : Fields → List ℕ → Option State
 state_of_digits fields word =
     if is_state_text fields word then Some (read_text fields word) else None
@@ -84,6 +84,6 @@ stage_step h (Named id) line = goes_stated h (state_in h.shape id line)
 stage_step h (Stated header) line =
     if bytes_eq line (codes "end") then ends header else refuses Form
 
--- a line behind those that were read
+-- a line after those that were read
 abbrev pub header_step : HeaderSoFar → List ℕ → Next HeaderSoFar NodeHeader Rule
 header_step h line = stage_step h h.stage line

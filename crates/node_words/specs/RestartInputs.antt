@@ -20,7 +20,7 @@ calls_of inputs v = whole (inputs v)
 abbrev pub restart_with : (node after : ℕ) → (input : List ℕ) → Restart
 restart_with node after input = record { node = node; after = after; call = whole input }
 
--- the same where it is the node's own input
+-- the same if it is the node's own input
 abbrev pub restart_of : (inputs : ℕ → List ℕ) → (node after : ℕ) → Restart
 restart_of inputs node after = restart_with node after (inputs node)
 
@@ -29,7 +29,7 @@ module _ {Reader Plan Premise : Type 0} (words : Words Reader Plan Premise) (lin
   -- and with it in the rest, which begins with its first packet. As the cell of a node that is
   -- faulty in the rest too each other one is given what is sent, and the one that is started anew
   -- what is sent to it after as many rounds. Each input ends with its window. The inputs are bytes,
-  -- where what is sent fits into cells.
+  -- if what is sent fits into cells.
   pub record InputsRestart (m : Machine) (plans : ℕ → Plan) (faulty meanwhile : List ℕ)
       (node after : ℕ) (starts : ℕ → State) (sent : ℕ → ℕ → ℕ → List ℕ) (begins : ℕ → ℕ)
       (rounds : ℕ) : Type 0 where

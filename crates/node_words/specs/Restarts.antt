@@ -13,7 +13,7 @@ use Rattle.node_words.specs.CallWindows.{NodesKeepPromise}
 
 -- A node is started anew: after so many rounds of a window it is another call, and the rest of the
 -- window begins with the first packet of that call. What it was before, and whether it was there,
--- is of no matter.
+-- does not matter.
 pub record Restart : Type 0 where
   pub node : ℕ
   pub after : ℕ
@@ -27,8 +27,8 @@ begins_after restart begins v = begins_later restart.node restart.after begins v
 
 module _ {Reader Plan Premise : Type 0} (words : Words Reader Plan Premise) (m : Machine) where
   -- The other correct nodes keep their promise all the time; with the one that is started anew all
-  -- keep it in the rest; the others are in the same states in both; and where it goes on from the
-  -- cell that was written in its place all stay locked.
+  -- keep it in the rest; the others are in the same states in both; and if it goes on from the cell
+  -- that was written in its place, all stay locked.
   pub record RestartIsKept (faulty meanwhile : List ℕ) (calls : ℕ → Call) (begins : ℕ → ℕ)
       (restart : Restart) (rounds : ℕ) : Type 0 where
     pub others : NodesKeepPromise words m meanwhile calls begins (restart.after + rounds)
@@ -44,10 +44,9 @@ module _ {Reader Plan Premise : Type 0} (words : Words Reader Plan Premise) (m :
         → StayLockedThrough m faulty
         (states_written words m (calls_after restart calls) (begins_after restart begins)) 0 rounds
 
-  -- Where the machine tolerates it as a faulty node too, the others are undisturbed while it is
-  -- away. It counts with them T rounds after its start; and at once where it was handed the last
-  -- cell that was written in its place, so that this is its first one, and the configuration then
-  -- was locked.
+  -- If the machine tolerates it as a faulty node too, the others are undisturbed while it is away.
+  -- It counts with them T rounds after its start; and at once if it was handed the last cell that
+  -- was written in its place, so that this is its first one, and the configuration then was locked.
   abbrev pub RestartedNodesCount : Type 0
   RestartedNodesCount = (faulty meanwhile : List ℕ) → IsBorne m faulty → IsBorne m meanwhile
       → (restart : Restart) → AreFaultyMeanwhile restart.node faulty meanwhile

@@ -18,8 +18,8 @@ module _ {Reader Plan Premise : Type 0} (words : Words Reader Plan Premise) (lin
   -- Inputs whose nodes begin in these states. All are connected for so many rounds; there the input
   -- of one node ends, and with another input of it, whose header has the state of the last cell
   -- that it wrote, all are connected in the rest. That cell is also the first one that is written
-  -- there. The configuration then is locked where as many rounds passed as the bound says. The
-  -- inputs are bytes, where what is sent fits into cells.
+  -- there. The configuration then is locked if the machine tolerates the faulty nodes and as many
+  -- rounds passed as the bound says. The inputs are bytes, if what is sent fits into cells.
   pub record InputsResume (m : Machine) (plans : ℕ → Plan) (faulty meanwhile : List ℕ)
       (node after : ℕ) (starts : ℕ → State) (sent : ℕ → ℕ → ℕ → List ℕ) (begins : ℕ → ℕ)
       (rounds : ℕ) : Type 0 where

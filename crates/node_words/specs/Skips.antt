@@ -11,11 +11,11 @@ use Rattle.node_words.specs.Constructions.{Words}
 use Rattle.node_words.specs.NodeAnswers.{node_outcome}
 use Rattle.node_words.specs.Calls.{whole, header_of}
 
--- an input with one more line behind these lines
+-- an input with one more line after these lines
 abbrev pub with_line : (before : List (List ℕ)) → (line rest : List ℕ) → List ℕ
 with_line before line rest = text_of before ++ (line ++ 10 ∷ rest)
 
--- the number that a line has then, where so many stand before the new one
+-- the number that a line has then, if so many stand before the new one
 abbrev pub further : (n number : ℕ) → ℕ
 further n number = if nat_le number n then number else number + 1
 
@@ -24,7 +24,7 @@ abbrev pub moved : {Premise : Type 0} → (n : ℕ) → HeaderRefusal Premise �
 moved n (refusal.Plan line premise) = refusal.Plan (further n line) premise
 moved n (refusal.Node line rule) = refusal.Node (further n line) rule
 
--- The same header, of one line more where the new one is among its own; or the refusal of the same
+-- The same header, with one more line if the new one is among its own; or the refusal of the same
 -- line.
 abbrev pub moved_header : {Plan Premise : Type 0} → (n : ℕ)
     → Result (HeaderOf Plan) (Option (HeaderRefusal Premise))
@@ -39,7 +39,7 @@ module _ {Reader Plan Premise : Type 0} (words : Words Reader Plan Premise) wher
   abbrev pub IsShort : (input : List ℕ) → Type 0
   IsShort input = header_of words (whole input) ≢ Err None
 
-  -- With the new line the input has the same header, or the refusal of the same line; and where the
+  -- With the new line the input has the same header, or the refusal of the same line; and if the
   -- new line is one of the header, it has the same outcome.
   pub record IsUnseen (before : List (List ℕ)) (line rest : List ℕ) : Type 0 where
     pub header : header_of words (whole (with_line before line rest))

@@ -38,7 +38,7 @@ module _ {Reader Plan Premise : Type 0} (plans : PlanPart Reader Plan Premise)
       record { plan = plan; node = record { id = v; state = s }; lines = writing.lines plan }
 
   -- The text of the header of an accepted plan, a node of it and a state of that node is read as
-  -- that header, at the front of any text, also of one that is longer than a header may be.
+  -- that header, at the beginning of any text, also of one that is longer than a header may be.
   abbrev pub AreReadBack : (Accepted : Plan → Type 0) → Type 0
   AreReadBack Accepted = (plan : Plan) → Accepted plan
       → (v : ℕ) → v < shape_nodes (plans.shape plan)

@@ -67,7 +67,7 @@ impl<'a> HeaderLines<'a> {
     }
 }
 
-/// The id of a line `id V`, where it is that of one of so many nodes.
+/// The id of a line `id V`, if it is that of one of so many nodes.
 fn id_in(nodes: u32, line: &[u8]) -> Result<u32, Rule>
     ensures id { result ≡ id_in nodes line.now }
     ensures below { IfOk result (λ id. id < nodes) }
@@ -94,7 +94,7 @@ fn state_word(line: &[u8]) -> Option<&[u8]>
     Some(word)
 }
 
-/// The state of hex digits, or none where they are not just those of a state of node `v`.
+/// The state of hex digits, or none if they are not exactly those of a state of node `v`.
 fn state_of_digits(
     alloc: Global,
     shape: &StateShape,

@@ -112,10 +112,10 @@ pub struct HeaderRead<P> {
 /// read, and no byte after their last line. They may have 2^20 bytes. `form` is what a plan part
 /// without an end fails.
 ///
-/// `Refused` is the first line that fails, where it is shown within the limit; else `TooLong`
-/// comes. `ReadFault` comes only where the source counted one fault and its end was not met, and
-/// `NoMemory` where memory was refused. What decides is the last byte that was read, with which a
-/// line shows, or the end; at `ReadFault` nothing does.
+/// `Refused` is the first line that fails, if it is shown within the limit; else `TooLong` comes.
+/// `ReadFault` comes only if the source counted one fault and its end was not met, and `NoMemory`
+/// if memory was refused. What decides is the last byte that was read, with which a line shows, or
+/// the end; at `ReadFault` nothing does.
 pub fn read_header_by<R: PlanReader, S: Source>(
     alloc: Global,
     feed: &mut Feed<'_, S>,
@@ -149,7 +149,7 @@ where
         }));
     }
     let shape = R::shape_of(alloc, &plan)?;
-    shape.tell();
+    shape.facts();
     let node_lines = HeaderLines::new(alloc, &shape);
     let node = match feed_part(feed, line, node_lines, Rule::Form, first, LONGEST_HEADER) {
         Ok(node) => node,

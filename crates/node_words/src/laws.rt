@@ -10,7 +10,7 @@ pub fn headers_are_of_plans()
 {}
 
 /// There is a header for each accepted plan, each node of it and each state of that node: its text
-/// is read as that header, at the front of any text.
+/// is read as that header, at the beginning of any text.
 pub fn header_texts_read_back()
     ensures { HeaderTextIsRead }
 {}

@@ -31,15 +31,15 @@ fn engine_of<C: Construction>(
     NodeEngine::new(alloc, counter, header.id, header.state)
 }
 
-/// Reads a header, and then packets, and writes the node's cell at the start and behind each whole
+/// Reads a header, and then packets, and writes the node's cell at the start and after each whole
 /// packet: the answer is how many these were. Each cell is written before it reads on.
 ///
 /// `Refused` is the first line of the header that fails, and the line that says so was written.
-/// `Cut` comes exactly where the input ends inside a packet, and `TooLong` where no line was
-/// refused within the first 2^20 bytes and the header was not whole, or at the first byte of packet
-/// 1,000,001. `ReadFault` comes only where the source counted one fault, behind bytes that do not
-/// show what decides, and `WriteFault` only where the sink counted one. `NoMemory` comes before the
-/// first byte was written.
+/// `Cut` comes exactly if the input ends inside a packet, and `TooLong` if no line was refused
+/// within the first 2^20 bytes and the header was not whole, or at the first byte of packet
+/// 1,000,001. `ReadFault` comes only if the source counted one fault, after bytes that do not show
+/// what decides, and `WriteFault` only if the sink counted one. `NoMemory` comes before the first
+/// byte was written.
 pub fn serve_node<C: Construction, S: Source, K: Sink>(
     alloc: Global,
     source: &mut S,

@@ -1,8 +1,8 @@
 -- What is read of an input of a plan, a part and a script: a part that fits its plan, and a script
 -- for both.
-use Rattle.std.proofs.Common.{◌≡◌, ℕ, ◌+◌, ◌^◌, ◌≤◌, List, replicate, Result, Ok, Err, refl, ◌∙◌}
-use Rattle.std.proofs.Common.{sym, subst, arith}
-use Rattle.std.specs.Prelude.{IfOk, ◌++◌}
+use Rattle.std.proofs.Common.{◌≡◌, ℕ, ◌+◌, ◌^◌, ◌≤◌, List, replicate, Option, Some, None, Result}
+use Rattle.std.proofs.Common.{Ok, Err, ◌∙◌, sym, ap, subst, arith}
+use Rattle.std.specs.Prelude.{IfOk, IfSome, ◌++◌}
 use Rattle.std.proofs.lemmas.List.Elements.{All-append, All-replicate}
 use Rattle.texts.specs.Parts.{At, Found}
 use Rattle.sync_types.specs.declared.answers.Premise.{Premise}
@@ -14,7 +14,7 @@ use Rattle.plan_numbers.specs.Premises.{IsAccepted}
 use Rattle.plan_laws.specs.PlanMeaning.{plan_meaning}
 use Rattle.plan_reader.specs.PlanPart.{plan_of}
 use Rattle.plan_reader.proofs.AcceptedPlans.{plan_accepted}
-use Rattle.counter_core.specs.Overlays.{Layer, StandsOver}
+use Rattle.counter_core.specs.Overlays.{Layer, LayerFits}
 use Rattle.state_codec.specs.Shapes.{Shape, IsShape, moduli_of, shape_with}
 use Rattle.state_codec.proofs.Plans.{shape_of_accepted, all_of_accepted, over_accepted}
 use Rattle.adversary_script.specs.Scripts.{Script, IsScript}
@@ -23,21 +23,27 @@ use Rattle.adversary_script.specs.ScriptPart.{script_of}
 use Rattle.adversary_script.proofs.ReadScripts.{script_is_for, script_is_script}
 use Rattle.round_runner.specs.Runners as runner
 use Rattle.slot_table.specs.SlotPart as slots
-use Rattle.slot_table.proofs.FitLines.{lines_fit}
 use Rattle.consensus_layer.specs.AgreeSaid.{AgreeSaid}
 use Rattle.consensus_layer.specs.AgreePart as agree
 use Rattle.consensus_layer.specs.Agreements.{agree_layer}
-use Rattle.consensus_layer.proofs.FitInputs.{inputs_fit}
 use Rattle.firing.specs.FirePart as fire
 use Rattle.firing.specs.Firings.{fire_layer}
-use Rattle.firing.proofs.FitRequests.{requests_fit}
 use Rattle.replicated_log.specs.LogPart as log
 use Rattle.replicated_log.specs.Logs.{log_layer}
-use Rattle.replicated_log.proofs.FitLogs.{log_fits}
+use Rattle.layer_laws.specs.Numbers.{Numbers, numbers_of}
+use Rattle.layer_parts.specs.declared.registers.Registers.{Registers}
+use Rattle.layer_parts.specs.CounterParts.{AreFew, IsSoundPart}
+use Rattle.layer_parts.specs.LayerWords.{LayerWords, IsSoundLayer}
+use Rattle.layer_parts.specs.Slots.{slots_over, no_registers, AreForNumbers}
+use Rattle.layer_parts.specs.Layers.{agree_registers, agree_words, fire_registers, fire_words}
+use Rattle.layer_parts.specs.Layers.{log_registers, log_words}
+use Rattle.layer_parts.specs.SoundSlots.{slots_sound}
+use Rattle.layer_parts.specs.SoundLayers.{agree_sound, agree_right, fire_sound, fire_right}
+use Rattle.layer_parts.specs.SoundLayers.{log_sound, log_right}
 use Rattle.outcomes.specs.declared.refusals.Refusal.{Refusal}
 use Rattle.outcomes.specs.Layered.{Layered, layered_with, behind_part, behind_plan, layered_of}
-use Rattle.outcomes.specs.Layered.{slots_shape, slotted_of, agree_shape, agreed_of, fire_shape}
-use Rattle.outcomes.specs.Layered.{firing_of, log_shape, logging_of}
+use Rattle.outcomes.specs.Layered.{slots_shape, slotted_of, agreed_of}
+use Rattle.outcomes.specs.Layered.{firing_of, logging_of, shape_for, layered_by}
 
 -- what was read: a part that fits its plan, and a script for both
 pub record IsRead {Said : Type 0} (shape_for : Plan → Said → Shape) (Fits : Plan → Said → Type 0)
@@ -127,7 +133,7 @@ pub record IsToPlay {Said Kept : Type 0} (Fits : Plan → Said → Type 0)
 -- a script for the shape with a layer's registers is one to play with the layer
 pub to_play : {Said Kept : Type 0} (shape_for : Plan → Said → Shape) (Fits : Plan → Said → Type 0)
     (layer_of : Plan → Said → Layer Kept) (l : Layered Said)
-    → StandsOver (layer_of l.plan l.said) (plan_meaning l.plan)
+    → LayerFits (layer_of l.plan l.said) (plan_meaning l.plan)
     → shape_for l.plan l.said
     ≡ shape_with l.plan (layer_of l.plan l.said).values (layer_of l.plan l.said).extra
     → IsRead shape_for Fits l → IsToPlay Fits layer_of l
@@ -144,35 +150,63 @@ to_play shape_for Fits layer_of l over is read = record {
   sound = subst IsShape (sym read.right.states) read.sound;
 }
 
+-- ---- a part for the counter of a plan
+
+module _ {Said : Type 0} (name : Part)
+    (part_over : Numbers → (number : ℕ) → List (List ℕ) → Result (Found Said) (At Rule))
+    (registers : Said → Option Registers) (Fits : Numbers → Said → Type 0)
+    (sound : IsSoundPart part_over registers Fits) where
+  abbrev FitsPlan : Plan → Said → Type 0
+  FitsPlan plan = Fits (numbers_of plan)
+
+  abbrev shaped : Plan → Said → Shape
+  shaped plan said = shape_for plan (registers said)
+
+  shape_sound : (plan : Plan) → IsAccepted plan → (more : Option Registers) → IfSome more AreFew
+      → IsShape (shape_for plan more)
+  shape_sound plan accepted None few = shape_of_accepted plan accepted
+  shape_sound plan accepted (Some more) few =
+      further_sound plan more.values more.count accepted few.least few.most
+
+  pub layered_read : (input : List ℕ)
+      → IfOk (layered_by name part_over registers input) (IsRead shaped FitsPlan)
+  layered_read input =
+      input_read name (λ plan. part_over (numbers_of plan)) shaped FitsPlan
+      (λ plan. sound.fits (numbers_of plan))
+      (λ plan said accepted fits.
+      shape_sound plan accepted (registers said) (sound.few (numbers_of plan) said fits)) input
+
+  -- that says a layer
+  pub layer_to_play : {Kept : Type 0} (words : LayerWords Said Kept)
+      → IsSoundLayer words registers Fits → (input : List ℕ)
+      → IfOk (layered_by name part_over registers input)
+      (IsToPlay FitsPlan (λ plan. words.layer (numbers_of plan)))
+  layer_to_play words right input =
+      so (layered_by name part_over registers input) (layered_read input)
+      (λ l. to_play shaped FitsPlan (λ plan. words.layer (numbers_of plan)) l
+      (right.fits (plan_meaning l.plan) l.said)
+      (ap (shape_for l.plan) (right.registers_are (numbers_of l.plan) l.said)))
+
 -- ---- the four layers
 
 pub slots_read : (input : List ℕ) → IfOk (slotted_of input) (IsRead slots_shape slots.AreFor)
-slots_read input =
-    input_read part.Slots slots.part_of slots_shape slots.AreFor lines_fit
-    (λ plan table accepted fits. shape_of_accepted plan accepted) input
+slots_read = layered_read part.Slots slots_over no_registers AreForNumbers slots_sound
 
 abbrev pub agreed_layer : Plan → AgreeSaid → Layer ℕ
 agreed_layer plan said = agree_layer plan said.values said.inputs
 
 pub decisions_to_play : (input : List ℕ)
     → IfOk (agreed_of input) (IsToPlay agree.IsFor agreed_layer)
-decisions_to_play input =
-    so _ (input_read part.Agree agree.part_of agree_shape agree.IsFor inputs_fit
-    (λ plan said accepted fits. further_sound plan said.values 1 accepted fits.two fits.few) input)
-    (λ l. to_play agree_shape agree.IsFor agreed_layer l
-    (λ lt. record { nodes = refl; modulus = refl; depth = refl }) refl)
+decisions_to_play =
+    layer_to_play part.Agree agree.part_over agree_registers agree.IsForNumbers agree_sound
+    agree_words agree_right
 
 pub fires_to_play : (input : List ℕ) → IfOk (firing_of input) (IsToPlay fire.AreFor fire_layer)
-fires_to_play input =
-    so _ (input_read part.Fire fire.part_of fire_shape fire.AreFor requests_fit
-    (λ plan requests accepted fits. further_sound plan 2 1 accepted (omega arith) (omega arith))
-    input)
-    (λ l. to_play fire_shape fire.AreFor fire_layer l
-    (λ lt. record { nodes = refl; modulus = refl; depth = refl }) refl)
+fires_to_play =
+    layer_to_play part.Fire fire.part_over fire_registers fire.AreForNumbers fire_sound
+    fire_words fire_right
 
 pub entries_to_play : (input : List ℕ) → IfOk (logging_of input) (IsToPlay log.IsFor log_layer)
-entries_to_play input =
-    so _ (input_read part.Log log.part_of log_shape log.IsFor log_fits
-    (λ plan said accepted fits. further_sound plan said.values 2 accepted fits.two fits.few) input)
-    (λ l. to_play log_shape log.IsFor log_layer l
-    (λ lt. record { nodes = refl; modulus = refl; depth = refl }) refl)
+entries_to_play =
+    layer_to_play part.Log log.part_over log_registers log.IsForNumbers log_sound log_words
+    log_right

@@ -29,7 +29,7 @@ verdict_outcome (verdict.True rows locked) =
 verdict_outcome (verdict.False row) =
     record { status = status.CertFalse row; text = false_line row }
 
--- a line is refused, or none is before the byte behind the limit
+-- a line is refused, or none is before the byte after the limit
 abbrev pub unchecked_outcome : (line : ℕ) → Limited (Unit {0}) → Outcome
 unchecked_outcome line (by r) = outcome_of (Err (refusal.Certificate line))
 unchecked_outcome line beyond = too_long

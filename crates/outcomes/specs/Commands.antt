@@ -78,15 +78,15 @@ manner (Some command.Check) = as_it_goes
 manner (Some command.Node) = as_it_goes
 manner (Some (command.Demo seed)) = nothing
 
--- Bytes that do not show what decides: more may follow, of which the outcome depends. None of them
--- is behind the limit, and a command that reads as it goes has not come to its answer.
+-- Bytes that do not show what decides: more may follow, on which the outcome depends. None of them
+-- is after the limit, and a command that reads as it goes has not come to its answer.
 abbrev pub IsPending : Option Command → (seen : List ℕ) → Type 0
 IsPending (Some (command.Batch b)) seen = length seen ≤ 2 ^ 20
 IsPending (Some command.Check) seen = Pending (2 ^ 44) seen
 IsPending (Some command.Node) seen = IsNodePending seen
 IsPending other seen = Unit {0}
 
--- what is written where a read fails behind these bytes
+-- what is written if a read fails after these bytes
 abbrev pub so_far : Option Command → List ℕ → List ℕ
 so_far (Some command.Node) seen = node_so_far seen
 so_far other seen = []

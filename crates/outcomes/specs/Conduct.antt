@@ -4,7 +4,7 @@ use Rattle.std.specs.Io.KnownBytes.{Consumes}
 use Rattle.sync_types.specs.declared.status.Status.{Status}
 use Rattle.sync_types.specs.declared.status.Status.TheVariants as status
 use Rattle.texts.specs.Causes.{Counted}
-use Rattle.texts.specs.Growth.{Told, Wrote, Cut}
+use Rattle.texts.specs.Growth.{SinkState, Wrote, Cut}
 pub use Rattle.node_words.specs.Conduct.{Holds, ReadsFront, ReadsAll, ReadsPart, OutOfMemory}
 use Rattle.outcomes.specs.declared.commands.Command.{Command}
 use Rattle.outcomes.specs.declared.commands.Command.TheVariants as command
@@ -33,12 +33,12 @@ Reads as_it_goes s left left' input = ReadsPart (comes_to_end as_it_goes s) left
 -- ---- what was written
 
 -- there is no text, and the sink is as it was
-pub record Untouched (text : List ℕ) (old new : Told) : Type 0 where
+pub record Untouched (text : List ℕ) (old new : SinkState) : Type 0 where
   pub none : text ≡ []
   pub same : new ≡ old
 
 -- a text was written, or the sink was not touched
-abbrev pub WritesIf : (writes : Bool) → List ℕ → Told → Told → Type 0
+abbrev pub WritesIf : (writes : Bool) → List ℕ → SinkState → SinkState → Type 0
 WritesIf true text old new = Wrote text old new
 WritesIf false text old new = Untouched text old new
 
@@ -50,31 +50,31 @@ comes_to_write all_first status.TooLong = false
 comes_to_write all_first other = true
 comes_to_write as_it_goes s = true
 
-abbrev pub Writes : Manner → Status → List ℕ → Told → Told → Type 0
+abbrev pub Writes : Manner → Status → List ℕ → SinkState → SinkState → Type 0
 Writes m s text old new = WritesIf (comes_to_write m s) text old new
 
 -- ---- what was done
 
 -- the status is that of the input's outcome, whose text was written
 pub record Answered (m : Manner) (outcome : List ℕ → Outcome) (s : Status)
-    (left left' : Option (List ℕ)) (before now : ℕ) (old new : Told) : Type 0 where
+    (left left' : Option (List ℕ)) (before now : ℕ) (old new : SinkState) : Type 0 where
   pub input : List ℕ
   pub read : Reads m s left left' input
   pub still : now ≡ before
   pub status : s ≡ (outcome input).status
   pub wrote : Writes m s (outcome input).text old new
 
--- a write failed, and a front of the outcome's text was taken
+-- a write failed, and a prefix of the outcome's text was taken
 pub record AnswerCut (m : Manner) (outcome : List ℕ → Outcome)
-    (left left' : Option (List ℕ)) (before now : ℕ) (old new : Told) : Type 0 where
+    (left left' : Option (List ℕ)) (before now : ℕ) (old new : SinkState) : Type 0 where
   pub input : List ℕ
   pub read : Reads m status.WriteFault left left' input
   pub still : now ≡ before
   pub cut : Cut (outcome input).text old new
 
--- one read failed, behind bytes that do not show what decides
+-- one read failed, after bytes that do not show what decides
 pub record ReadFailed (m : Manner) (Pending : List ℕ → Type 0) (written : List ℕ → List ℕ)
-    (left left' : Option (List ℕ)) (before now : ℕ) (old new : Told) : Type 0 where
+    (left left' : Option (List ℕ)) (before now : ℕ) (old new : SinkState) : Type 0 where
   pub seen : List ℕ
   pub read : Consumes left left' seen
   pub pending : Pending seen
@@ -95,7 +95,7 @@ IfCommand (Some command) P = P
 -- what a call did that answered this status: the bytes that its source has left, the source's count
 -- of faults, and what its sink tells, each before and after
 abbrev pub Does : Option Command → Status → (left left' : Option (List ℕ)) (before now : ℕ)
-    (old new : Told) → Type 0
+    (old new : SinkState) → Type 0
 Does c status.ReadFault left left' before now old new =
     IfReads (manner c)
     (ReadFailed (manner c) (IsPending c) (so_far c) left left' before now old new)
@@ -105,7 +105,7 @@ Does c status.NoMemory left left' before now old new = IfCommand c (OutOfMemory 
 Does c other left left' before now old new =
     Answered (manner c) (defined c) other left left' before now old new
 
--- ---- what was not touched, also where a source or a sink tells nothing
+-- ---- what was not touched, also if a source or a sink tells nothing
 
 -- a command that reads nothing leaves its source as it was, whatever its status
 abbrev pub LeavesUnread : {S : Type 0} → Manner → (old new : S) → Type 0
@@ -113,13 +113,13 @@ LeavesUnread nothing old new = new ≡ old
 LeavesUnread all_first old new = Unit {0}
 LeavesUnread as_it_goes old new = Unit {0}
 
--- A read failed before the end was met: no source is asked again behind its end.
+-- A read failed before the end was met: no source is asked again after its end.
 abbrev pub LeavesUnmet : Status → (before now : Bool) → Type 0
 LeavesUnmet status.ReadFault before now = now ≡ before
 LeavesUnmet other before now = Unit {0}
 
--- Whether a call that ends with that status may have touched its sink: not where memory was
--- refused, nor where a word that writes at its end lost its input.
+-- Whether a call that ends with that status may have touched its sink: not if memory was refused,
+-- nor if a word that writes at its end lost its input.
 abbrev pub touches : Option Command → Status → Bool
 touches c status.NoMemory = false
 touches (Some (command.Batch b)) status.ReadFault = false

@@ -52,7 +52,7 @@ behind_plan (Ok found) = with_script found.value
 abbrev pub scripted_of : List ℕ → Result Scripted Refusal
 scripted_of input = behind_plan (plan_of input)
 
--- ---- a part behind which only skipped lines stand
+-- ---- a part after which only skipped lines stand
 
 abbrev pub plan_alone : List ℕ → Result Plan Refusal
 plan_alone input = or_refusal in_plan (whole_plan_of input)

@@ -1,5 +1,5 @@
 -- Inputs of a plan, a part that says a layer above its counter, and a script.
-use Rattle.std.specs.Prelude.{ℕ, ◌+◌, List, Result, Ok, Err}
+use Rattle.std.specs.Prelude.{ℕ, ◌+◌, List, Option, Some, None, Result, Ok, Err}
 use Rattle.texts.specs.Parts.{At, Found}
 use Rattle.sync_types.specs.declared.answers.Premise.{Premise}
 use Rattle.sync_types.specs.declared.answers.Rule.{Rule}
@@ -10,6 +10,8 @@ use Rattle.plan_reader.specs.PlanPart.{plan_of}
 use Rattle.state_codec.specs.Shapes.{Shape, shape_of, shape_with}
 use Rattle.adversary_script.specs.Scripts.{Script}
 use Rattle.adversary_script.specs.ScriptPart.{script_of}
+use Rattle.layer_laws.specs.Numbers.{Numbers, numbers_of}
+use Rattle.layer_parts.specs.declared.registers.Registers.{Registers}
 use Rattle.slot_table.specs.declared.lines.SlotLine.{SlotLine}
 use Rattle.slot_table.specs.SlotPart as slots
 use Rattle.consensus_layer.specs.AgreeSaid.{AgreeSaid}
@@ -27,7 +29,7 @@ pub record Layered (Said : Type 0) : Type 0 where
   pub said : Said
   pub script : Script
 
--- a part of that name behind the plan, and the shape of states with the registers of its layer
+-- a part of that name after the plan, and the shape of states with the registers of its layer
 module _ {Said : Type 0} (name : Part)
     (part_of : Plan → (number : ℕ) → List (List ℕ) → Result (Found Said) (At Rule))
     (shape_for : Plan → Said → Shape) where
@@ -53,6 +55,21 @@ module _ {Said : Type 0} (name : Part)
   abbrev pub layered_of : List ℕ → Result (Layered Said) Refusal
   layered_of input = behind_plan (plan_of input)
 
+-- ---- a part for the counter of a plan
+
+-- the shape of a plan's states, with these registers after the plan's
+abbrev pub shape_for : Plan → Option Registers → Shape
+shape_for plan None = shape_of plan
+shape_for plan (Some more) = shape_with plan more.values more.count
+
+-- an input with a part for a counter's numbers, which has such registers
+abbrev pub layered_by : {Said : Type 0} → Part
+    → (part_over : Numbers → (number : ℕ) → List (List ℕ) → Result (Found Said) (At Rule))
+    → (registers : Said → Option Registers) → List ℕ → Result (Layered Said) Refusal
+layered_by name part_over registers input =
+    layered_of name (λ plan. part_over (numbers_of plan))
+    (λ plan said. shape_for plan (registers said)) input
+
 -- ---- the four layers
 
 -- a slot table: the registers of the plan alone
@@ -62,7 +79,7 @@ slots_shape plan table = shape_of plan
 abbrev pub slotted_of : List ℕ → Result (Layered (List SlotLine)) Refusal
 slotted_of input = layered_of part.Slots slots.part_of slots_shape input
 
--- consensus: one register of the values that are said, behind those of the plan
+-- consensus: one register of the values that are said, after those of the plan
 abbrev pub agree_shape : Plan → AgreeSaid → Shape
 agree_shape plan said = shape_with plan said.values 1
 

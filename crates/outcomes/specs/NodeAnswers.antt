@@ -33,6 +33,6 @@ node_outcome input =
 abbrev pub IsNodePending : List ℕ → Type 0
 IsNodePending = any.IsNodePending plan_words
 
--- what is written where a read fails behind these bytes: the cells, once the header is whole
+-- what is written if a read fails after these bytes: the cells, once the header is whole
 abbrev pub node_so_far : List ℕ → List ℕ
 node_so_far = any.node_so_far plan_words

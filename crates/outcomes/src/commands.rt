@@ -38,7 +38,7 @@ pub enum Command {
     Batch(Batch),
     /// What a run certificate comes to, which is read line by line.
     Check,
-    /// One node that is given packets: its cell at the start and behind each packet.
+    /// One node that is given packets: its cell at the start and after each packet.
     Node,
     /// The run of a plan and a script that are made of this seed, below 10^15. Nothing is read.
     Demo(u64),

@@ -49,7 +49,7 @@ fn lie_line(alloc: Global, liar: u32) -> Result<String, AllocError>
 }
 
 /// The plan and the script of a seed: twelve nodes, of which three lie at random in each round.
-/// Fails where memory is refused.
+/// Fails if memory is refused.
 pub fn demo_text(alloc: Global, seed: u64) -> Result<String, AllocError>
     ensures { IfOk result (λ text. string_bytes text ≡ demo_text seed) }
 {

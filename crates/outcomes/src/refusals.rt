@@ -83,7 +83,7 @@ fn put_failed<'a, K: Sink>(
     )
 }
 
-/// Writes the line of a refusal. `WriteFault` comes where the sink counted one; a front of the line
+/// Writes the line of a refusal. `WriteFault` comes if the sink counted one; a prefix of the line
 /// was then taken.
 pub fn put_refusal<K: Sink>(sink: &mut K, refusal: Refusal) -> Result<(), WriteFault>
     ensures { Puts result (refusal_line refusal) (K.told sink.old) (K.told sink.new) }

@@ -38,7 +38,7 @@ module _ (n f : ℕ) (next : ℕ → ℕ) (own : Reg) (xs ys : List (Option ℕ)
   two_closed same =
       ap (λ k. incremented next (record { a = Some (own_or_kings own.a own.d k); d = true })) same
 
-  -- kind 2: and not that, where the own one is finite and marked
+  -- kind 2: and not that, if the own one is finite and marked
   pub marked_stays : (z : ℕ) → own.a ≡ Some z → own.d ≡ true
       → instructed n f next 2 own xs king ≡ record { a = Some (next z); d = true }
   marked_stays z value mark =

@@ -1,4 +1,4 @@
--- What counts over the lists heard say, where at most f of n > 3f nodes are faulty.
+-- What counts over the lists heard say, if at most f of n > 3f nodes are faulty.
 use Rattle.std.proofs.Common.{◌≡◌, ◌≢◌, ℕ, ◌+◌, ◌<◌, ◌≤◌, Bool, false, not, ◌&&◌, List, Option, sym}
 use Rattle.std.proofs.Common.{ap, ◌∙◌, inl, inr, ⊎_elim, arith}
 use Rattle.std.proofs.lemmas.Bool.{cases_Bool, false≢true, and_parts, and_from, not-true}

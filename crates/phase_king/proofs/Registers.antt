@@ -1,4 +1,4 @@
--- When what the liars tell leaves a level's register as it is.
+-- When what the liars say leaves a level's register as it is.
 use Rattle.std.proofs.Common.{◌≡◌, ℕ, ◌-◌, ◌/◌, ◌%◌, Bool, true, List, slice_index_or, nat_le}
 use Rattle.std.proofs.Common.{Option, Some, None, sym, ap, ◌∙◌}
 use Rattle.sync_types.specs.declared.states.Reg.{Reg}

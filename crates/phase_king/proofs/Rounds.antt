@@ -38,7 +38,7 @@ finite : (a : Option ℕ) → is_some a ≡ true → (y : ℕ) × (a ≡ Some y)
 finite None h = absurd (false≢true h)
 finite (Some y) h = (y, refl)
 
--- where own and king's are one value, keeping and taking are the same
+-- if own and king's are one value, keeping and taking are the same
 either_way : (a : Option ℕ) (d : Bool) (king : Option ℕ) (y : ℕ) → a ≡ Some y → unwrap_or king 0 ≡ y
     → own_or_kings a d king ≡ y
 either_way None d king y e g = absurd (cc)
@@ -89,7 +89,7 @@ module _ (n f : ℕ) (next : ℕ → ℕ) (faulty : ℕ → Bool) (quorum : 3 * 
       ∙ ap (λ y. incremented next (record { a = y; d = true }))
       (least_one old z o.heard o.hears all)))
 
-  -- where it is locked, each kind keeps it so
+  -- if it is locked, each kind keeps it so
   pub locked_on : (old : ℕ → Reg) (z : ℕ) → AllLocked n faulty old z
       → (kind king : ℕ) (heard : List (Option ℕ)) → Hears n faulty old heard
       → instructed n f next kind (locked_at z) heard king ≡ locked_at (next z)
@@ -154,7 +154,7 @@ module _ (n f : ℕ) (next : ℕ → ℕ) (faulty : ℕ → Bool) (quorum : 3 * 
       )))
       (cases_eq s.0 t.0)
 
-  -- where all but f places hold the own value and more than f hold j, the own value is j
+  -- if all but f places hold the own value and more than f hold j, the own value is j
   own_is : (old : ℕ → Reg) (u : ℕ) (heard : List (Option ℕ)) (j : ℕ) → Hears n faulty old heard
       → n - f ≤ count_of heard (old u).a → f < count_of heard (Some j)
       → ((x : ℕ) → (old u).a ≡ Some x → x ≡ j) → (o : Option ℕ) → (old u).a ≡ o → (old u).a ≡ Some j
@@ -163,7 +163,7 @@ module _ (n f : ℕ) (next : ℕ → ℕ) (faulty : ℕ → Bool) (quorum : 3 * 
       let most_none : n - f ≤ count_of heard None = subst (λ o. n - f ≤ count_of heard o) e most in
       absurd (omega (arith, two_values heard None (Some j) (λ e. cc), h.size))
 
-  -- where all but f places of one list heard hold z, each list heard has a least value
+  -- if all but f places of one list heard hold z, each list heard has a least value
   carried_least : (old : ℕ → Reg) (some other : List (Option ℕ)) (z : ℕ) → Hears n faulty old some
       → Hears n faulty old other → n - f ≤ count_of some (Some z)
       → (j : ℕ) × (least_above f other ≡ Some j) × (j ≤ z)
@@ -187,7 +187,7 @@ module _ (n f : ℕ) (next : ℕ → ℕ) (faulty : ℕ → Bool) (quorum : 3 * 
   takes_least old king own new o j y least e =
       ap (λ r. r.a) o.step ∙ (ap (option_map next) least ∙ ap Some e)
 
-  -- after kind 1: where one correct node is locked, each correct node has its value
+  -- after kind 1: if one correct node is locked, each correct node has its value
   pub second_round : (king : ℕ) (old new : ℕ → Reg) → OneValue old
       → AllObey n f next faulty 1 king old new → (u y : ℕ) → u < n → faulty u ≡ false
       → (new u).a ≡ Some y → (new u).d ≡ true → AllHave n faulty new y
@@ -208,7 +208,7 @@ module _ (n f : ℕ) (next : ℕ → ℕ) (faulty : ℕ → Bool) (quorum : 3 * 
       takes_least old king (old v) (new v) q l.0 y l.1
       (ap next (one_least old q.heard p.heard l.0 s.0 one q.hears p.hears l.1 s.1) ∙ s.2)
 
-  -- kind 2, where all correct nodes have one value
+  -- kind 2, if all correct nodes have one value
   third_from_one : (king : ℕ) (old new : ℕ → Reg) (y : ℕ) → king < n → faulty king ≡ false
       → AllHave n faulty old y → AllObey n f next faulty 2 king old new
       → AllLocked n faulty new (next y)
@@ -219,7 +219,7 @@ module _ (n f : ℕ) (next : ℕ → ℕ) (faulty : ℕ → Bool) (quorum : 3 * 
       (either_way (old v).a (old v).d (get_or q.heard king None) y (has v lt ok)
       (ap (λ o. unwrap_or o 0) (q.hears.honest king king_lt king_ok ∙ has king king_lt king_ok)))
 
-  -- kind 2, where no correct node is locked
+  -- kind 2, if no correct node is locked
   third_from_none : (king : ℕ) (old new : ℕ → Reg) → king < n → faulty king ≡ false
       → ((v : ℕ) → v < n → faulty v ≡ false → (is_some (old v).a && (old v).d) ≡ false)
       → AllObey n f next faulty 2 king old new
@@ -231,7 +231,7 @@ module _ (n f : ℕ) (next : ℕ → ℕ) (faulty : ℕ → Bool) (quorum : 3 * 
       (unmarked (old v).a (old v).d (get_or q.heard king None) (none v lt ok)
       ∙ ap (λ o. unwrap_or o 0) (q.hears.honest king king_lt king_ok))
 
-  -- after kind 2, where all have the value of each that is locked
+  -- after kind 2, if all have the value of each that is locked
   pub third_round : (king : ℕ) (old new : ℕ → Reg) → king < n → faulty king ≡ false
       → ((u y : ℕ) → u < n → faulty u ≡ false → (old u).a ≡ Some y → (old u).d ≡ true
       → AllHave n faulty old y)

@@ -1,4 +1,4 @@
--- Rounds of a group of n nodes that bears f faults, as functions of the place: which nodes are
+-- Rounds of a group of n nodes that tolerates f faults, as functions of the place: which nodes are
 -- faulty, and which register each node has. Each node hears a list of its own.
 use Rattle.std.specs.Prelude.{◌≡◌, ℕ, ◌<◌, List, length, Bool, false, Option, Some, None}
 use Rattle.std.specs.Prelude.{slice_index_or}

@@ -42,7 +42,7 @@ IsSlot n f faulty registers =
     (x : ℕ) → x < 3 * (f + 1)
     → AllObey n f (λ a. a) faulty (x % 3) (x / 3) (registers x) (registers (x + 1))
 
--- at the end of a slot all correct registers are locked at one value, which is the common one where
+-- at the end of a slot all correct registers are locked at one value, which is the common one if
 -- all began with it
 pub record Agrees (n f : ℕ) (faulty : ℕ → Bool) (registers : ℕ → ℕ → Reg) : Type 0 where
   pub value : ℕ

@@ -8,7 +8,7 @@ pub fn persistence()
     ensures { Persistence }
 {}
 
-/// Where all correct registers have one value, the kinds 0 and 1 lock it.
+/// If all correct registers have one value, the kinds 0 and 1 lock it.
 pub fn unanimity()
     ensures { Unanimity }
 {}
@@ -18,13 +18,13 @@ pub fn convergence()
     ensures { Convergence }
 {}
 
-/// f + 1 phases without increment end locked at one value, the common one where there was one.
+/// f + 1 phases without increment end locked at one value, the common one if there was one.
 pub fn slot()
     ensures { Slot }
 {}
 
-/// In a group that bears its liars, and whose correct registers are locked at one value, a register
-/// that is locked there too goes on, a liar's too: nothing that is told matters.
+/// In a group that tolerates its liars, and whose correct registers are locked at one value, a
+/// register that is locked there too goes on, a liar's too: nothing that is said matters.
 pub fn locked_goes_on()
     ensures { LockedGoesOn }
 {}

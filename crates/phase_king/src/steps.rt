@@ -10,9 +10,9 @@ use sync_types::Reg;
 ///
 /// `kind` is 0, 1 or 2. Of the values that the node hears from all nodes of its group, `same` is
 /// how many are its own value, infinity being one; `least` is the least finite value that more than
-/// `faults` nodes have, None where there is none; `king` is the king's value, None being infinity.
+/// `faults` nodes have, None if there is none; `king` is the king's value, None being infinity.
 /// After the instruction a finite value goes to the next one modulo `modulus`, and infinity stays.
-/// Values may be any, as a liar tells them.
+/// Values may be any, as a liar says them.
 pub fn king_step(
     kind: u64,
     own: Reg,
@@ -58,8 +58,8 @@ pub fn agree_step(
     requires faults { faults ≤ nodes }
     ensures value { result ≡ without_increment nodes faults kind own same least king }
 
-    // with the counts and the king's value of a list heard, it is the instruction on that list,
-    // where the next value is the value itself
+    // with the counts and the king's value of a list heard, it is the instruction on that list, and
+    // the next value is the value itself
     ensures heard { (values : List (Option ℕ)) (place : ℕ) →
         same ≡ count_of values own.a → least ≡ least_above faults values
         → king ≡ slice_index_or values place None →
@@ -82,7 +82,7 @@ pub fn agree_step(
     }
 }
 
-// The own value where it is finite and marked, else the king's, or 0 where that is infinite.
+// The own value if it is finite and marked, else the king's, or 0 if that is infinite.
 fn own_or_kings(own: Reg, king: Option<u64>) -> u64
     ensures { result ≡ own_or_kings own.a own.d king }
 {

@@ -9,11 +9,11 @@ face_of None = face.Faulty
 face_of (Some output) = face.Value output
 
 -- How far an output is ahead of its configuration, modulo the modulus: as far in each
--- configuration, where the node counts.
+-- configuration, if the node counts.
 abbrev pub lead_of : (modulus t output : ℕ) → ℕ
 lead_of modulus t output = (output + (modulus - t % modulus)) % modulus
 
--- one of three parts of a lead's colour: neighbours differ much, and leads that have the same three
--- parts are more than a million apart
+-- one of three parts of a lead's colour: neighbours differ a lot, and leads that have the same
+-- three parts are more than a million apart
 abbrev pub shade : (start turn size lead : ℕ) → ℕ
 shade start turn size lead = 128 + (lead % size * turn + start) % size

@@ -2,7 +2,7 @@
 -- is at most 7 wide. Columns stand side by side in bands of 120, one band below the other.
 use Rattle.std.specs.Prelude.{ℕ, ◌+◌, ◌*◌, ◌%◌, ◌/◌, min}
 use Rattle.picture_parts.specs.declared.frames.Frame.{Frame}
-use Rattle.picture_parts.specs.declared.frames.Spot.{Spot}
+use Rattle.picture_parts.specs.declared.frames.CellPosition.{CellPosition}
 
 -- how wide a column is
 abbrev pub column_width : (digits : ℕ) → ℕ
@@ -21,22 +21,22 @@ abbrev pub band_top : (height column : ℕ) → ℕ
 band_top height column = column / 120 * height
 
 -- the configuration of a spot
-abbrev pub configuration : Spot → ℕ
+abbrev pub configuration : CellPosition → ℕ
 configuration spot = spot.frame.first + spot.column
 
 -- the left side of a spot, and its middle
-abbrev pub left : Spot → ℕ
+abbrev pub left : CellPosition → ℕ
 left spot = column_left spot.frame.digits spot.column
 
-abbrev pub middle : Spot → ℕ
+abbrev pub middle : CellPosition → ℕ
 middle spot = column_middle spot.frame.digits spot.column
 
 -- how wide it is
-abbrev pub width : Spot → ℕ
+abbrev pub width : CellPosition → ℕ
 width spot = column_width spot.frame.digits
 
 -- its top, below those of the bands before its own
-abbrev pub spot_top : Spot → ℕ
+abbrev pub spot_top : CellPosition → ℕ
 spot_top spot = band_top spot.frame.height spot.column + spot.top
 
 -- what is below all bands

@@ -1,10 +1,10 @@
--- The front of a picture, in SVG, and its ground.
+-- The beginning of a picture, in SVG, and its ground.
 use Rattle.std.specs.Prelude.{ℕ, ◌+◌, ◌*◌, max, List, [], ◌∷◌, codes, decimal}
 use Rattle.std.specs.List.{concat}
 use Rattle.picture_parts.specs.declared.frames.Frame.{Frame}
 use Rattle.picture_parts.specs.Frames.{right}
 
--- the front, with the width and the height of the picture
+-- the beginning, with the width and the height of the picture
 abbrev pub picture_front : (width height : ℕ) → List ℕ
 picture_front width height = concat (
     codes "<svg xmlns='http://www.w3.org/2000/svg' width='" ∷ decimal width

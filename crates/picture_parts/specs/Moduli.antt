@@ -13,7 +13,7 @@ pub record HasOutput {X : Type 0} (shown : X → Option ℕ) (xs : List X) (outp
   pub inside : place < length xs
   pub is : (d : X) → shown (slice_index_or xs place d) ≡ Some output
 
--- the least number above all outputs: one more than the largest one, or 0 where there is none
+-- the least number above all outputs: one more than the largest one, or 0 if there is none
 pub record IsModulusOf {X : Type 0} (shown : X → Option ℕ) (xs : List X) (modulus : ℕ)
     : Type 0 where
   pub below : All (λ x. IsBelow modulus (shown x)) xs

@@ -18,14 +18,14 @@ pub struct Frame {
     pub digits: u16,
     /// How high a band is.
     pub height: u32,
-    /// What outputs count by, as far as they show it: one more than the largest one, or 0 where
-    /// there is none.
+    /// What outputs count by, as far as they show it: one more than the largest one, or 0 if there
+    /// is none.
     pub modulus: u64,
 }
 
 /// Where something is drawn: in a column, from a height of its band on.
 #[derive(Clone, Copy)]
-pub struct Spot {
+pub struct CellPosition {
     pub frame: Frame,
     pub column: u32,
     /// How far it is below the top of its band.
@@ -63,14 +63,14 @@ pub fn band_top(height: u32, column: u32) -> u64
 }
 
 /// The configuration of a spot.
-pub fn configuration(spot: Spot) -> u64
+pub fn configuration(spot: CellPosition) -> u64
     ensures { result ≡ configuration spot }
 {
     u64::from(spot.frame.first) + u64::from(spot.column)
 }
 
 /// The left side of a spot.
-pub fn left(spot: Spot) -> u64
+pub fn left(spot: CellPosition) -> u64
     ensures value { result ≡ left spot }
     ensures most { result ≤ 2 ^ 40 }
 {
@@ -78,7 +78,7 @@ pub fn left(spot: Spot) -> u64
 }
 
 /// The middle of a spot.
-pub fn middle(spot: Spot) -> u64
+pub fn middle(spot: CellPosition) -> u64
     ensures value { result ≡ middle spot }
     ensures least { 3 ≤ result }
 {
@@ -86,7 +86,7 @@ pub fn middle(spot: Spot) -> u64
 }
 
 /// How wide a spot is.
-pub fn width(spot: Spot) -> u64
+pub fn width(spot: CellPosition) -> u64
     ensures value { result ≡ width spot }
     ensures least { 4 ≤ result }
     ensures most { result ≤ 2 ^ 20 }
@@ -95,7 +95,7 @@ pub fn width(spot: Spot) -> u64
 }
 
 /// The top of a spot.
-pub fn spot_top(spot: Spot) -> u64
+pub fn spot_top(spot: CellPosition) -> u64
     ensures value { result ≡ spot_top spot }
     ensures most { result < 2 ^ 59 }
 {
@@ -133,7 +133,7 @@ pub fn band_height(nodes: u16) -> u32
     80 + 18 * u32::from(nodes)
 }
 
-/// How many digits the configurations of up to 1000000 have.
+/// How many digits the number of a configuration has, which is at most 1000000.
 pub fn digits_of(t: u32) -> u16 {
     match t {
         0..=9 => 1,

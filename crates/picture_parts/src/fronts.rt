@@ -1,4 +1,4 @@
-//! Writes the front of a picture, and its ground.
+//! Writes the beginning of a picture, and its ground.
 
 ghost use Rattle.std.specs.Prelude.{◌≡◌};
 ghost use Rattle.texts.specs.Growth.{Puts};
@@ -7,7 +7,7 @@ ghost use Rattle.picture_parts.specs.Fronts.{picture_front, picture_ground, pict
 use crate::frames::{Frame, right};
 use edge_io::{Piece, Sink, WriteFault, put_all, put_pieces};
 
-/// Writes the front of a picture.
+/// Writes the beginning of a picture.
 pub fn put_front<K: Sink>(sink: &mut K, width: u64, height: u64) -> Result<(), WriteFault>
     ensures { Puts result (picture_front width height) (K.told sink.old) (K.told sink.new) }
 {

@@ -11,7 +11,7 @@ fn may_follow(most: u64, before: u64, after: u64) -> bool
     after.checked_sub(1) == Some(before) || (after == 0 && most <= before)
 }
 
-/// Whether a count was broken off, of which the numbers are known where they are there.
+/// Whether a count was broken off, as far as numbers that are there show it.
 pub fn breaks(most: u64, before: Option<u64>, after: Option<u64>) -> bool {
     match (before, after) {
         (Some(before), Some(after)) => !may_follow(most, before, after),

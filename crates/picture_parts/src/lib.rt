@@ -1,12 +1,12 @@
 //! What pictures in SVG are made of: where columns and bands stand, what is drawn of what a node
-//! shows, the front, the ground and lines of the caption; and what reading their texts takes: words
-//! of lines, and why a text is not read.
+//! shows, the beginning, the ground and lines of the caption; and what reading their texts takes:
+//! words of lines, and why a text is not read.
 //!
 //! Outputs that count keep the lead that their colour goes by, and no two different ones of a
 //! configuration have the same lead ([`laws`]).
 #![tactic(auto)]
 
-// As `?` behind a part of a text that is written, but with no call of its own.
+// As `?` after a part of a text that is written, but with no call of its own.
 macro_rules! written {
     ($part:expr) => {
         match $part {
@@ -33,8 +33,8 @@ pub use captions::{put_colour_legend, put_number_caption, put_span};
 pub use errors::{ChartError, LineError, Wanted};
 pub use faces::{Face, face_of};
 pub use frames::{
-    Frame, MOST_COLUMNS, Spot, band_height, band_top, bottom, configuration, digits_of, left,
-    line_top, middle, spot_top, width,
+    CellPosition, Frame, MOST_COLUMNS, band_height, band_top, bottom, configuration, digits_of,
+    left, line_top, middle, spot_top, width,
 };
 pub use fronts::{picture_width, put_front, put_ground};
 pub use hits::breaks;

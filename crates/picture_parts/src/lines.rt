@@ -2,13 +2,13 @@
 
 use edge_io::{Words, number, numbers_after};
 
-/// The number of a line that is a key and a number behind it.
+/// The number of a line that is a key and a number after it.
 pub fn number_after(line: &[u8], key: &[u8]) -> Option<u64> {
     let numbers: [u64; 1] = numbers_after(line, key)?;
     Some(numbers[0])
 }
 
-/// What a word is as a number of 32 bits, as a row or a line behind the rows may name.
+/// What a word is as a number of 32 bits, as a row or a line after the rows may name.
 fn small(word: &[u8]) -> Option<u32> {
     match number(word) {
         Some(n) => u32::try_from(n).ok(),
@@ -32,7 +32,7 @@ pub fn next_is(words: &mut Words<'_>, key: &[u8]) -> bool {
     }
 }
 
-/// The number of 32 bits behind a key that is the next word.
+/// The number of 32 bits after a key that is the next word.
 pub fn number_behind(words: &mut Words<'_>, key: &[u8]) -> Option<u32> {
     if next_is(words, key) {
         next_number(words)

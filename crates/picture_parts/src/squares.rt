@@ -9,8 +9,8 @@ ghost use Rattle.picture_parts.specs.Frames.{band_top};
 
 use crate::faces::{Face, lead_of, shade};
 use crate::frames::{
-    Frame, MOST_COLUMNS, Spot, band_top, column_middle, configuration, left, middle, spot_top,
-    width,
+    CellPosition, Frame, MOST_COLUMNS, band_top, column_middle, configuration, left, middle,
+    spot_top, width,
 };
 use edge_io::{Piece, Sink, WriteFault, put_all, put_pieces};
 
@@ -50,7 +50,7 @@ fn put_axes<K: Sink>(sink: &mut K, frame: Frame, column: u32) -> Result<(), Writ
     )
 }
 
-/// Writes the same where a column is the first one of its band.
+/// Writes the same if a column is the first one of its band.
 fn put_axes_at<K: Sink>(sink: &mut K, frame: Frame, column: u32) -> Result<(), WriteFault>
     ensures { Puts result (axes_at frame column) (K.told sink.old) (K.told sink.new) }
 {
@@ -82,7 +82,11 @@ pub fn put_column_head<K: Sink>(sink: &mut K, frame: Frame, column: u32) -> Resu
 }
 
 /// Writes the id of a node, before its line in each band.
-pub fn put_node_label<K: Sink>(sink: &mut K, spot: Spot, node: u64) -> Result<(), WriteFault>
+pub fn put_node_label<K: Sink>(
+    sink: &mut K,
+    spot: CellPosition,
+    node: u64,
+) -> Result<(), WriteFault>
     ensures { Puts result (node_label spot node) (K.told sink.old) (K.told sink.new) }
 {
     if spot.column % MOST_COLUMNS == 0 {
@@ -92,8 +96,12 @@ pub fn put_node_label<K: Sink>(sink: &mut K, spot: Spot, node: u64) -> Result<()
     }
 }
 
-/// Writes what is told of a node where the pointer rests on its cell, up to what it shows there.
-pub fn put_hover_front<K: Sink>(sink: &mut K, spot: Spot, node: u64) -> Result<(), WriteFault>
+/// Writes what is said of a node when the pointer rests on its cell, up to what it shows there.
+pub fn put_hover_front<K: Sink>(
+    sink: &mut K,
+    spot: CellPosition,
+    node: u64,
+) -> Result<(), WriteFault>
     ensures { Puts result (hover_front spot node) (K.told sink.old) (K.told sink.new) }
 {
     put_pieces(
@@ -125,16 +133,21 @@ fn put_face_word<K: Sink>(sink: &mut K, face: Face) -> Result<(), WriteFault>
     }
 }
 
-/// Writes what is told of a node where the pointer rests on its cell.
-fn put_hover<K: Sink>(sink: &mut K, spot: Spot, node: u64, face: Face) -> Result<(), WriteFault>
+/// Writes what is said of a node when the pointer rests on its cell.
+fn put_hover<K: Sink>(
+    sink: &mut K,
+    spot: CellPosition,
+    node: u64,
+    face: Face,
+) -> Result<(), WriteFault>
     ensures { Puts result (hover spot node face) (K.told sink.old) (K.told sink.new) }
 {
     written!(put_hover_front(sink, spot, node));
     put_face_word(sink, face)
 }
 
-/// Writes the front of a rectangle, up to its filling.
-pub fn put_rectangle<K: Sink>(sink: &mut K, spot: Spot) -> Result<(), WriteFault>
+/// Writes the beginning of a rectangle, up to its filling.
+pub fn put_rectangle<K: Sink>(sink: &mut K, spot: CellPosition) -> Result<(), WriteFault>
     ensures { Puts result (rectangle_front spot) (K.told sink.old) (K.told sink.new) }
 {
     put_pieces(
@@ -170,7 +183,7 @@ fn put_colour<K: Sink>(sink: &mut K, lead: u64) -> Result<(), WriteFault>
 }
 
 /// Writes the rest of a rectangle: nodes that count keep one colour.
-fn put_filling<K: Sink>(sink: &mut K, spot: Spot, face: Face) -> Result<(), WriteFault>
+fn put_filling<K: Sink>(sink: &mut K, spot: CellPosition, face: Face) -> Result<(), WriteFault>
     ensures { Puts result (filling spot face) (K.told sink.old) (K.told sink.new) }
 {
     match face {
@@ -183,8 +196,8 @@ fn put_filling<K: Sink>(sink: &mut K, spot: Spot, face: Face) -> Result<(), Writ
     }
 }
 
-/// Draws a cross, where there is no value.
-pub fn put_cross<K: Sink>(sink: &mut K, spot: Spot) -> Result<(), WriteFault>
+/// Draws a cross, which stands for no value.
+pub fn put_cross<K: Sink>(sink: &mut K, spot: CellPosition) -> Result<(), WriteFault>
     ensures { Puts result (cross spot) (K.told sink.old) (K.told sink.new) }
 {
     put_pieces(
@@ -200,7 +213,7 @@ pub fn put_cross<K: Sink>(sink: &mut K, spot: Spot) -> Result<(), WriteFault>
 }
 
 /// Writes what stands within a rectangle.
-fn put_inscription<K: Sink>(sink: &mut K, spot: Spot, face: Face) -> Result<(), WriteFault>
+fn put_inscription<K: Sink>(sink: &mut K, spot: CellPosition, face: Face) -> Result<(), WriteFault>
     ensures { Puts result (inscription spot face) (K.told sink.old) (K.told sink.new) }
 {
     match face {
@@ -211,7 +224,7 @@ fn put_inscription<K: Sink>(sink: &mut K, spot: Spot, face: Face) -> Result<(), 
 }
 
 /// Draws a rectangle with what a node shows.
-fn put_square<K: Sink>(sink: &mut K, spot: Spot, face: Face) -> Result<(), WriteFault>
+fn put_square<K: Sink>(sink: &mut K, spot: CellPosition, face: Face) -> Result<(), WriteFault>
     ensures { Puts result (square spot face) (K.told sink.old) (K.told sink.new) }
 {
     written!(put_rectangle(sink, spot));
@@ -219,8 +232,8 @@ fn put_square<K: Sink>(sink: &mut K, spot: Spot, face: Face) -> Result<(), Write
     put_inscription(sink, spot, face)
 }
 
-/// Draws a black corner where the start of an era put a node into another state, and ends a group.
-fn put_cell_close<K: Sink>(sink: &mut K, spot: Spot, hit: bool) -> Result<(), WriteFault>
+/// Draws a black corner if the start of an era put a node into another state, and ends a group.
+fn put_cell_close<K: Sink>(sink: &mut K, spot: CellPosition, hit: bool) -> Result<(), WriteFault>
     ensures { Puts result (cell_close spot hit) (K.told sink.old) (K.told sink.new) }
 {
     match hit {
@@ -241,7 +254,7 @@ fn put_cell_close<K: Sink>(sink: &mut K, spot: Spot, hit: bool) -> Result<(), Wr
 /// Draws a rectangle with what a node shows, and the corner.
 pub fn put_shown<K: Sink>(
     sink: &mut K,
-    spot: Spot,
+    spot: CellPosition,
     node: u64,
     face: Face,
     hit: bool,

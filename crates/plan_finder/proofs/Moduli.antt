@@ -329,7 +329,7 @@ module _ (most : ℕ) (limit : most ≤ 256) (c : ℕ) (least_c : 2 ≤ c) (most
 abbrev pub level_with : Step → ℕ → Level
 level_with step modulus = line step.blocks step.faults modulus 0
 
--- what is refused for its first premise that fails, where none fails, is Ok
+-- what is refused for its first premise that fails is Ok if none fails
 pub ok_by : {X : Type 0} (r : Result X Premise) (fails : Option Premise)
     → IfErr r (λ premise. fails ≡ Some premise)
     → fails ≡ None → IsOk r

@@ -49,7 +49,7 @@ less_below xs ys zs less not_less = elim (less_or_not ys zs) [
 
 -- ---- lists with an end
 
--- a list as long, with an end, is less by its front, or by its end
+-- a list with an end is less than one as long by its prefix, or by its end
 pub less_split : (xs ys us vs : List ℕ) → length xs ≡ length ys → IsLess (xs ++ us) (ys ++ vs)
     → IsLess xs ys ⊎ ((xs ≡ ys) × IsLess us vs)
 less_split [] [] us vs long less = inr (refl, less)

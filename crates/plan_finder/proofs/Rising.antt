@@ -12,7 +12,7 @@ rising_short [] lt = tt
 rising_short (pot ∷ []) lt = tt
 rising_short (pot ∷ (next ∷ pots)) lt = absurd (omega (arith, lt))
 
--- a pair above all pairs goes behind them
+-- a pair above all pairs goes after them
 pub rising_push : (pots : List Pot) (last : Pot) → IsRising pots
     → All (λ pot. IsBelow pot last) pots
     → IsRising (pots ++ last ∷ [])

@@ -213,19 +213,11 @@ module _ (most n k g : ℕ) where
         | inr at ↦ absurd (omega (arith, at.1))
       ]
 
-      -- where levels of k blocks are over fewer than f faults, all by k blocks are tried
+      -- if levels of k blocks are over fewer than f faults, all by k blocks are tried
       pub next_known : (known : Option Best) → IsBestOf (IsTried most n g k f) known
           → IsBestOf (IsTried most n g (k + 1) 0) known
       next_known =
           same_set (IsTried most n g k f) (IsTried most n g (k + 1) 0) (next_left f) next_back
-
--- a step costs too much
-pub too_dear : (most n k g : ℕ) → 2 ^ 40 < cost_of k g → (level : Level) (below : List Level)
-    → Reaches most n g (level ∷ below) → level.blocks ≡ k → faults_of below < 0
-too_dear most n k g dear level below reaches blocks =
-    let step = moved most (nodes_of below) (faults_of below) level.blocks level.faults
-    (nodes_of below) (faults_of below) k g refl refl blocks reaches.faults reaches.path.2 in
-    absurd (omega (arith, dear, step.most_cost))
 
 -- all faults below are fewer than the width
 pub all_narrow : (most n k g width : ℕ) → most < 3 * width → 1 ≤ most
@@ -235,7 +227,7 @@ all_narrow most n k g width wide some level below reaches blocks =
     omega
     (arith, path_sized most below reaches.path.0, path_few most below some reaches.path.0, wide)
 
--- the blocks do not part the nodes
+-- the blocks do not divide the nodes
 pub not_parted : (most n k g : ℕ) → 3 ≤ k → ¬ (n % k ≡ 0) → (level : Level) (below : List Level)
     → Reaches most n g (level ∷ below) → level.blocks ≡ k → faults_of below < 0
 not_parted most n k g some not_zero level below reaches blocks =
@@ -275,9 +267,6 @@ depth_is best kept = let e = ap (λ ranks. get_or ranks 2 0) (rank_is best kept)
 module _ (most n f k : ℕ) (best : Best) (is : IsBest (Reaches most n f) best) (some : 3 ≤ k)
     (few : k * n ≤ most)
     (limit : most ≤ 256) where
-  pub front_nodes : best.nodes ≡ n
-  front_nodes = is.kept.nodes ∙ is.member.nodes
-
   pub front_room : best.depth < 5
   front_room =
       let deep : 3 ^ length (levels_in best)
@@ -287,14 +276,6 @@ module _ (most n f k : ℕ) (best : Best) (is : IsBest (Reaches most n f) best) 
       (subst (λ m. 3 ^ length (levels_in best) ≤ m) is.member.nodes deep) in
       let three : 3 * n ≤ k * n = mul-le-mul_right n some in
       room_left best.depth n (k * n) deep' three (omega (arith, few, limit))
-
-  pub front_value : best.value ≤ n * 2 ^ 40
-  front_value =
-      let cost : bound_of (levels_in best)
-      ≤ nodes_of (levels_in best) * 2 ^ 40 = path_cost most (levels_in best) is.member.path in
-      let cost' : bound_of (levels_in best)
-      ≤ n * 2 ^ 40 = subst (λ m. bound_of (levels_in best) ≤ m * 2 ^ 40) is.member.nodes cost in
-      omega (arith, is.kept.value, cost')
 
 -- ---- the cells, with one more
 
@@ -322,25 +303,3 @@ module _ (most width n g : ℕ) (cells : List (Option Best)) (best : Option Best
           (subst (λ x. IsBestOf (Reaches most n x) best) (sym place) is))
     ];
   }
-
-not_before_start : (most : ℕ) (levels : List Level) → IsPath most levels
-    → ¬ IsLess (rank_of levels) (0 ∷ 1 ∷ 0 ∷ [])
-not_before_start most levels path (inl lt) = absurd (omega (arith, lt))
-not_before_start most levels path (inr (e, inl lt)) =
-    absurd (omega (arith, lt, path_sized most levels path))
-not_before_start most levels path (inr (e, inr (e', inl lt))) = absurd (omega (arith, lt))
-not_before_start most levels path (inr (e, inr (e', inr (e'', less)))) = less
-
--- without levels one node is reached, and nothing is before that
-pub start_best : (most : ℕ) (best : Best) → IsKept best → steps_in best ≡ []
-    → IsBest (Reaches most 1 0) best
-start_best most best kept none =
-    let empty : levels_in best ≡ [] = ap levels_by none in
-    record {
-      kept = kept;
-      member =
-          subst (Reaches most 1 0) (sym empty) (record { path = tt; nodes = refl; faults = refl });
-      least =
-          λ other reaches less. not_before_start most other reaches.path
-          (subst (λ ls. IsLess (rank_of other) (rank_of ls)) empty less);
-    }

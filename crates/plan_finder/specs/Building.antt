@@ -33,7 +33,7 @@ pub record IsUsable (step : Step) : Type 0 where
   pub most_faults : step.faults ≤ 85
   pub most_cost : cost_of step.blocks step.faults ≤ 2 ^ 40
 
--- the plan is that of the best levels, and accepted; there is none where there are none
+-- the plan is that of the best levels, and accepted; there is none if there are none
 abbrev pub IsBuilt : (c : ℕ) → Option Best → Option Plan → Type 0
 IsBuilt c None plan = plan ≡ None
 IsBuilt c (Some best) plan =

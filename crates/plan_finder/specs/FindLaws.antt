@@ -10,7 +10,7 @@ use Rattle.plan_finder.specs.Potentials.{ArePotentials, bound_in}
 use Rattle.plan_finder.specs.FindPart.{want_of}
 use Rattle.plan_finder.specs.Least.{find_plan, costs_of}
 
--- The plan is the least accepted one that meets the wants, and there is none where no plan does. In
+-- The plan is the least accepted one that meets the wants, and there is none if no plan does. In
 -- rising order each pair that steps reach is there with its least cost, so no plan that meets the
 -- wants settles in less than this one, and the pairs show it.
 pub record IsAnswerFor (want : Want) (plan : Option Plan) (pots : List Pot) : Type 0 where

@@ -29,7 +29,7 @@ goes_with (Err rule) = refuses rule
 abbrev pub after_want : List ℕ → Result Want Rule
 after_want line = want_by (numbers_after (codes "want") 3 (words_of line))
 
--- a line behind those that were read
+-- a line after those that were read
 abbrev pub find_step : FindStage → List ℕ → Next FindStage Want Rule
 find_step Unread line = if bytes_eq line (codes "find 1") then goes Begun else refuses Form
 find_step Begun line = goes_with (after_want line)
@@ -40,7 +40,7 @@ abbrev pub unless_followed : Option ℕ → Want → Result Want (At Rule)
 unless_followed None want = Ok want
 unless_followed (Some number) want = Err (record { line = number; rule = Form })
 
--- the wants of a part, behind which only skipped lines may stand
+-- the wants of a part, after which only skipped lines may stand
 abbrev pub alone : Result (Found Want) (At Rule) → Result Want (At Rule)
 alone (Ok found) = unless_followed (first_unskipped (1 + found.taken) found.behind) found.value
 alone (Err refusal) = Err refusal

@@ -1,6 +1,5 @@
 -- What is found, as functions: the first of all levels that meet a test, and so the plan and the
--- costs. They are for whoever has to name the answer; what it is, `IsPlanFor` and `AreLeastCosts`
--- say.
+-- costs. They name the answer; `IsPlanFor` and `AreLeastCosts` say what it is.
 use Rattle.std.specs.Prelude.{ℕ, zero, suc, ◌+◌, ◌*◌, ◌/◌, ◌^◌, List, [], ◌∷◌, map, Bool, true}
 use Rattle.std.specs.Prelude.{false, ◌&&◌, ◌||◌, ◌==◌, nat_lt, nat_le, if◌then◌else◌, Option, Some}
 use Rattle.std.specs.Prelude.{None}
@@ -66,7 +65,7 @@ reaches most n f levels = is_path most levels && ((nodes_of levels == n) && (fau
 abbrev pub find_plan : (f c most : ℕ) → Option Plan
 find_plan f c most = option_map (plan_with c) (least_levels (has_faults most f))
 
--- the pair, where it is reached, with its least cost
+-- the pair, if it is reached, with its least cost
 abbrev pub pot_if : (n f : ℕ) → Option (List Level) → List Pot
 pot_if n f None = []
 pot_if n f (Some levels) = record { nodes = n; faults = f; value = bound_of levels } ∷ []

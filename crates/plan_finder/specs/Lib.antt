@@ -6,7 +6,6 @@ pub mod Potentials
 pub mod Best
 pub mod Building
 pub mod FindPart
-pub mod FindRefusals
 pub mod FindText
 pub mod Least
 pub mod FindLaws

@@ -4,7 +4,7 @@ use Rattle.construction.specs.Plans.{Plan, plan_nodes, plan_faults, plan_modulus
 use Rattle.plan_numbers.specs.Premises.{IsAccepted}
 use Rattle.plan_finder.specs.Orders.{IsBefore}
 
--- an accepted plan of version 1 that bears f faults and counts by c, with so many nodes at most
+-- an accepted plan of version 1 that tolerates f faults and counts by c, with so many nodes at most
 pub record MeetsWants (f c most : ℕ) (plan : Plan) : Type 0 where
   pub accepted : IsAccepted plan
   pub version : plan.version ≡ 1
@@ -17,7 +17,7 @@ pub record IsLeastPlan (f c most : ℕ) (plan : Plan) : Type 0 where
   pub meets : MeetsWants f c most plan
   pub least : (other : Plan) → MeetsWants f c most other → ¬ IsBefore other plan
 
--- the least plan that meets the wants, or none where no plan does
+-- the least plan that meets the wants, or none if no plan does
 abbrev pub IsPlanFor : (f c most : ℕ) → Option Plan → Type 0
 IsPlanFor f c most (Some plan) = IsLeastPlan f c most plan
 IsPlanFor f c most None = (other : Plan) → ¬ MeetsWants f c most other

@@ -8,7 +8,7 @@ ghost use Rattle.plan_finder.specs.Best.{numbers_by, steps_in, rank_in, IsKept, 
 pub struct Step {
     /// How many blocks.
     pub blocks: u64,
-    /// How many faults it bears.
+    /// How many faults it tolerates.
     pub faults: u64,
 }
 
@@ -21,7 +21,7 @@ pub struct Best {
     pub nodes: u64,
     /// How many there are.
     pub depth: usize,
-    /// The levels, the lowest first, and nothing that counts behind them.
+    /// The levels, the lowest first, and nothing that counts after them.
     pub steps: [Step; 5],
 }
 
@@ -101,8 +101,8 @@ impl Best {
     }
 }
 
-/// The levels of two that come first, where there are any; the first ones where neither is before
-/// the other.
+/// Of two, the levels that come first, if there are any; the first ones if neither is before the
+/// other.
 pub fn lesser(known: Option<Best>, other: Option<Best>) -> Option<Best>
     ensures { IsLesser known other result }
 {

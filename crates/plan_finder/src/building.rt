@@ -11,7 +11,7 @@ use plan_numbers::{Plan, PremiseError};
 use std::alloc::Global;
 use sync_types::NoMemory;
 
-/// The modulus that stands below these steps: the cost of the lowest, or `c` where there is none.
+/// The modulus that stands below these steps: the cost of the lowest, or `c` if there is none.
 fn modulus_under(steps: &[Step], c: u64) -> u64
     requires { All IsUsable steps.now }
     ensures { result ≡ modulus_under c steps.now }
@@ -43,7 +43,7 @@ pub fn plan_of(alloc: Global, steps: &[Step], c: u64, most: u64) -> Result<Plan,
         let modulus = modulus_under(&steps[i + 1..], c);
         plan.push(step.blocks, step.faults, modulus).unwrap();
     }
-    plan.tell();
+    plan.facts();
     Ok(plan)
 }
 

@@ -5,10 +5,10 @@ ghost use Rattle.plan_finder.specs.Steps.{cost_of};
 pub const MOST_COST: u64 = 1 << 40;
 
 /// The cost of a step to `g` faults, at most 85, by `k` blocks, 3 to 16: the rounds in which a
-/// level of `k` blocks that bears `g` faults settles once its blocks count, 3 (g + 2) (2 m)^k with
-/// m half of `k`, rounded up.
+/// level of `k` blocks that tolerates `g` faults settles once its blocks count, 3 (g + 2) (2 m)^k
+/// with m half of `k`, rounded up.
 ///
-/// None exactly where it is above 2^40. No level has such a cost: it divides a modulus.
+/// None exactly if it is above 2^40. No level has such a cost: it divides a modulus.
 pub fn step_cost(k: u64, g: u64) -> Option<u64>
     requires blocks { (3 ≤ k) × (k ≤ 16) }
     requires faults { g ≤ 85 }

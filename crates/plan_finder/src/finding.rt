@@ -16,15 +16,15 @@ use sync_types::NoMemory;
 /// What [`find`] answers.
 #[derive(Debug, Drop)]
 pub struct Found {
-    /// The least plan that meets the wants, None exactly where no accepted plan does.
+    /// The least plan that meets the wants, None exactly if no accepted plan does.
     pub plan: Option<Plan>,
     /// In rising order of nodes and faults each pair that steps reach, with its least cost.
     pub pots: Pots,
 }
 
-/// The least plan of version 1 that bears `f` faults and counts by `c`, with at most `most` nodes,
-/// and the least cost of each pair of nodes and faults. `f` is at most 85, `c` from 2 to 2^40,
-/// `most` from 1 to 256.
+/// The least plan of version 1 that tolerates `f` faults and counts by `c`, with at most `most`
+/// nodes, and the least cost of each pair of nodes and faults. `f` is at most 85, `c` from 2 to
+/// 2^40, `most` from 1 to 256.
 ///
 /// Plans are compared by their bounds, their nodes, how many levels they have, the blocks and
 /// faults of these from the lowest up, and their moduli from that of the base up. The pairs pass

@@ -5,7 +5,7 @@ ghost use Rattle.plan_finder.specs.Potentials.{PotentialsBound};
 ghost use Rattle.plan_finder.specs.WantTexts.{WantTextIsRead};
 
 /// Of each input that is a find part: the plan that is defined for its wants is the least accepted
-/// one that meets them, none exactly where no plan does, and the pairs have their least costs.
+/// one that meets them, none exactly if no plan does, and the pairs have their least costs.
 pub fn finds_least()
     ensures { FindsLeast }
 {}

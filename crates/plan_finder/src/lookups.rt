@@ -132,10 +132,9 @@ fn all_keep_bound(pots: &[Pot], f: u64, bound: Option<u64>) -> bool
 
 /// Whether the pairs strictly rise by nodes and faults, one node and no faults are there with value
 /// 0, each step from a pair leads to one that is there with at most the value and the cost, and
-/// each pair with `f` faults has at least the value `bound`, or there is none where `bound` is
-/// None.
+/// each pair with `f` faults has at least the value `bound`, or there is none if `bound` is None.
 ///
-/// Where this is true, each accepted plan of version 1 with `f` faults and at most `most` nodes
+/// If this is true, each accepted plan of version 1 with `f` faults and at most `most` nodes
 /// settles in no less than `bound`, or there is no such plan. It takes no memory.
 pub fn check_potentials(pots: &[Pot], f: u64, most: u64, bound: Option<u64>) -> bool
     ensures { Decides result (ArePotentials f most bound pots.now) }

@@ -8,7 +8,7 @@ use std::marker::Model;
 pub struct Pot {
     /// How many nodes.
     pub nodes: u64,
-    /// How many faults they bear.
+    /// How many faults they tolerate.
     pub faults: u64,
     /// In rounds.
     pub value: u64,

@@ -1,4 +1,4 @@
--- What a node's votes come to where all sound blocks point to one leader.
+-- What a node's votes come to if all sound blocks point to one leader.
 use Rattle.std.proofs.Common.{◌≡◌, ℕ, ◌+◌, ◌*◌, ◌<◌, ◌≤◌, Bool, true, false, not, List, length, map}
 use Rattle.std.proofs.Common.{ap, ◌∙◌, arith}
 use Rattle.std.specs.List.{range_with_len}
@@ -13,11 +13,11 @@ use Rattle.construction.specs.Pointers.{pointer_of, part_of}
 use Rattle.construction.specs.Votes.{block, vote, lead, beat_heard}
 use Rattle.construction.proofs.Blocks.{block_room, length-block, get_or-block}
 use Rattle.plan_laws.specs.Hearing.{HearsOutputs}
-use Rattle.plan_laws.specs.Level.{StandsOver}
+use Rattle.plan_laws.specs.Level.{LevelPremises}
 use Rattle.plan_laws.proofs.Blocks.{sound, few_unsound}
 
 module _ (level : Level) (n f modulus : ℕ) (faulty : ℕ → Bool)
-    (stands : StandsOver level n f modulus) (inner : 3 * f < n)
+    (stands : LevelPremises level n f modulus) (inner : 3 * f < n)
     (few : places faulty (group_size level n) ≤ level.faults)
     (outputs : ℕ → ℕ) (heard : List ℕ)
     (hears : HearsOutputs (level.blocks * n) faulty outputs heard) where

@@ -15,7 +15,7 @@ use Rattle.plan_laws.specs.BlockLaw.{BlockLaw}
 use Rattle.plan_laws.proofs.BoostLaws.{inner_is_next, cut_again, cut_with, deep_inner}
 
 module _ (a : Meaning) (in_range : State → Type 0) where
-  -- the registers behind those of a counter may be cut off a run
+  -- the registers after those of a counter may be cut off a run
   cut_run : IgnoresFurther a in_range → (faulty : ℕ → Bool) (last : ℕ) (run : ℕ → ℕ → State)
       → RunByPlace a in_range faulty last run
       → RunByPlace a in_range faulty last (λ t v. cut a.depth (run t v))

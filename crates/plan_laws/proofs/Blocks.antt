@@ -7,7 +7,7 @@ use Rattle.std.proofs.lemmas.Bool.{leb-false, not-false}
 use Rattle.counting.specs.Places.{places}
 use Rattle.counting.proofs.Places.{stretches, shorter, one_fails}
 use Rattle.construction.specs.Plans.{Level, group_size, leaders_of}
-use Rattle.plan_laws.specs.Level.{StandsOver, faults_in}
+use Rattle.plan_laws.specs.Level.{LevelPremises, faults_in}
 
 -- whether block i has at most f faulty nodes
 abbrev pub sound : (n f : ℕ) (faulty : ℕ → Bool) (i : ℕ) → Bool
@@ -27,7 +27,7 @@ unsound_blocks n f faulty (suc k) =
     (omega (arith, unsound_blocks n f faulty k, unsound_step (nat_le m f) f m refl))
 
 module _ (level : Level) (n f modulus : ℕ) (faulty : ℕ → Bool)
-    (stands : StandsOver level n f modulus)
+    (stands : LevelPremises level n f modulus)
     (few : places faulty (group_size level n) ≤ level.faults) where
   -- so fewer blocks than there are leaders are not sound
   pub few_unsound : places (λ i. not (sound n f faulty i)) level.blocks < leaders_of level

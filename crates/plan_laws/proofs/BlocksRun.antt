@@ -29,14 +29,14 @@ use Rattle.plan_laws.specs.BlocksOfRuns.{ids_in_block, block_of_configuration, b
 use Rattle.plan_laws.specs.Laws.{BlocksRun}
 use Rattle.plan_laws.proofs.Ranges.{registers_of_cut, step_of-cut}
 
--- two ids of one block are the same where their places are
+-- two ids of one block are the same if their places are
 same_shifted : (a j u : ℕ) → eqb j u ≡ eqb (a + j) (a + u)
 same_shifted a j u = ⊎_elim
     (λ same. same.0 ∙ sym (eq-eqb (a + j) (a + u) (omega (arith, same.1))))
     (λ other. other.0 ∙ sym (ne_eqb (a + j) (a + u) (λ e. other.1 (omega arith))))
     (eqb_tells j u)
 
--- one id more, in block i or not
+-- one more id, in block i or not
 id_step : (n i j id : ℕ) (ids : List ℕ) (b : Bool) → eqb (id / n) i ≡ b → j < n
     → is_in (ids_in_block n i ids) j ≡ is_in ids (i * n + j)
     → is_in (map (λ id. id - i * n)

@@ -1,4 +1,4 @@
--- A boosted counter settles where the counter below does.
+-- A boosted counter settles if the counter below does.
 use Rattle.std.proofs.Common.{◌≡◌, ◌⊎◌, ℕ, ◌+◌, ◌*◌, ◌%◌, ◌<◌, ◌≤◌, Bool, List, length, None}
 use Rattle.std.proofs.Common.{unwrap_or, sym, ap, ◌∙◌, inl, inr, arith}
 use Rattle.std.proofs.lemmas.Nat.{mod-mul-add}

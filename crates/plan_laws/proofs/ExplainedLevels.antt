@@ -16,7 +16,7 @@ use Rattle.leader_pointers.proofs.Windows.{meet, part_counted}
 use Rattle.phase_king.specs.Hearing.{Obeys, AllObey, AllLocked}
 use Rattle.phase_king.proofs.Rounds.{convergence}
 use Rattle.plan_laws.specs.Hearing.{HearsOutputs, RegistersStep}
-use Rattle.plan_laws.specs.Level.{StandsOver, faults_in, BlockCounts}
+use Rattle.plan_laws.specs.Level.{LevelPremises, faults_in, BlockCounts}
 use Rattle.plan_laws.specs.Explained.{Explains, ExplainedLocks, IsExplained, SpanIsExplained}
 use Rattle.plan_laws.proofs.Blocks.{sound, sound_leader}
 use Rattle.plan_laws.proofs.Phase.{good_king, phase_time, kind_of, king_of}
@@ -25,7 +25,7 @@ use Rattle.plan_laws.proofs.Beats.{beat_is, AllPointTo}
 -- ---- what is explained is locked
 
 module _ (level : Level) (n f modulus : ℕ) (next : ℕ → ℕ) (faulty : ℕ → Bool)
-    (stands : StandsOver level n f modulus) (inner : 3 * f < n)
+    (stands : LevelPremises level n f modulus) (inner : 3 * f < n)
     (few : places faulty (group_size level n) ≤ level.faults)
     (from last : ℕ) (outputs : ℕ → ℕ → ℕ) (registers : ℕ → ℕ → Reg)
     (steps : RegistersStep level n next faulty from last outputs registers)
@@ -119,13 +119,13 @@ explained_locks level n f modulus next faulty stands inner few from last outputs
 -- ---- a span is explained
 
 module _ (level : Level) (n f modulus : ℕ) (faulty : ℕ → Bool)
-    (stands : StandsOver level n f modulus)
+    (stands : LevelPremises level n f modulus)
     (few : places faulty (group_size level n) ≤ level.faults) (some : 0 < n)
     (t last : ℕ) (outputs : ℕ → ℕ → ℕ) (long : t + span_of level ≤ last)
     (counts : (i : ℕ) → i < level.blocks → faults_in n faulty i ≤ f
     → BlockCounts level n modulus t faulty outputs i)
   where
-    -- the output of block i, where it is sound
+    -- the output of block i, if it is sound
     output_by : (i : ℕ) (b : Bool) → (ltb i level.blocks && sound n f faulty i) ≡ b → ℕ → ℕ
     output_by i true e =
         let p = and_parts (ltb i level.blocks) (sound n f faulty i) e in

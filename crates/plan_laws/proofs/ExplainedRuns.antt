@@ -1,4 +1,4 @@
--- Runs of an accepted plan lock where they are explained, and the bound is explained.
+-- Runs of an accepted plan lock if they are explained, and the bound is explained.
 use Rattle.std.proofs.Common.{◌≡◌, ℕ, ◌+◌, ◌-◌, ◌%◌, List, ◌∷◌, length, sym, subst, subst₂, arith}
 use Rattle.std.proofs.Math.Path.{fun_ext}
 use Rattle.sync_types.specs.States.{State, register_at}

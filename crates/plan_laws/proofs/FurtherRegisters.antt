@@ -1,5 +1,5 @@
--- Registers behind those of a boosted counter matter to nothing, where those behind the counter
--- below don't.
+-- Registers after those of a boosted counter matter to nothing, if those after the ones of the
+-- counter below don't.
 use Rattle.std.proofs.Common.{◌≡◌, ℕ, ◌+◌, ◌*◌, ◌/◌, ◌%◌, ◌<◌, ◌≤◌, List, length, map, unwrap_or}
 use Rattle.std.proofs.Common.{IfSome, sym, ap, ◌∙◌, subst, arith}
 use Rattle.std.proofs.lemmas.List.{length-map, get_or-map}
@@ -22,7 +22,7 @@ use Rattle.plan_laws.proofs.BoostLaws.{map_over, cut_again, register_cut, place_
 
 module _ (a : Meaning) (in_range : State → Type 0) (level : Level) (sizes : Sizes a in_range)
     (ignores : IgnoresFurther a in_range) where
-  -- heard states with at least one register more
+  -- heard states with at least one more register
   more : List State → List State
   more heard = map (cut (a.depth + 1)) heard
 

@@ -11,7 +11,7 @@ use Rattle.counter_core.specs.Laws.{Sizes}
 use Rattle.counter_core.specs.Trivial.{one_node, IsBelow}
 use Rattle.counter_core.specs.TrivialLaws.{one_node_sizes, one_node_settles}
 use Rattle.counter_core.proofs.ListsAndPlaces.{settles_by_place}
-use Rattle.plan_laws.specs.Level.{StandsOver}
+use Rattle.plan_laws.specs.Level.{LevelPremises}
 use Rattle.plan_laws.specs.Boosted.{StandsOn}
 use Rattle.plan_laws.proofs.BoostLaws.{boosted_sizes}
 use Rattle.plan_laws.proofs.BoostSettles.{boosted_settles_by_place}
@@ -24,7 +24,7 @@ stands_over : (m : Meaning) (base : ℕ) (level : Level) (below : List Level) �
     → first_premise (below_of base below) level ≡ None → StandsOn m level
 stands_over m base level below e none =
     let met = meets (below_of base below) level none in
-    let stands : StandsOver level (nodes_of below) (faults_of below) (modulus_of base below) =
+    let stands : LevelPremises level (nodes_of below) (faults_of below) (modulus_of base below) =
     record {
       blocks = met.blocks;
       quorum = met.quorum;
@@ -32,9 +32,9 @@ stands_over m base level below e none =
       multiple = met.multiple;
     } in
     record {
-      stands = subst (λ n. StandsOver level n m.faults m.modulus) (sym e.nodes)
-          (subst (λ f. StandsOver level (nodes_of below) f m.modulus) (sym e.faults)
-          (subst (λ c. StandsOver level (nodes_of below) (faults_of below) c) (sym e.modulus)
+      stands = subst (λ n. LevelPremises level n m.faults m.modulus) (sym e.nodes)
+          (subst (λ f. LevelPremises level (nodes_of below) f m.modulus) (sym e.faults)
+          (subst (λ c. LevelPremises level (nodes_of below) (faults_of below) c) (sym e.modulus)
           stands));
       most_nodes = subst (λ n. group_size level n ≤ 256) (sym e.nodes) met.most_nodes;
       least_modulus = met.modulus;

@@ -1,5 +1,5 @@
--- Registers behind those of the levels matter neither to what is in range, nor to what is shown,
--- nor to the step.
+-- Registers after those of the levels matter neither to what is in range, nor to what is shown, nor
+-- to the step.
 use Rattle.std.proofs.Common.{◌≡◌, ℕ, zero, suc, ◌+◌, ◌*◌, ◌/◌, ◌%◌, ◌<◌, ◌≤◌, cond, Bool, true}
 use Rattle.std.proofs.Common.{false, List, [], ◌∷◌, length, take, map, Option, IfSome, unwrap_or}
 use Rattle.std.proofs.Common.{refl, sym, ap, ap₂, ◌∙◌, subst, arith}

@@ -1,16 +1,16 @@
--- Where the sound blocks count for a span, the registers are locked at its end.
+-- If the sound blocks count for a span, the registers are locked at its end.
 use Rattle.std.proofs.Common.{◌⊎◌, ℕ, ◌+◌, ◌*◌, ◌<◌, ◌≤◌, Bool, inl, inr, arith}
 use Rattle.std.proofs.lemmas.Bool.{cases_lt}
 use Rattle.sync_types.specs.declared.states.Reg.{Reg}
 use Rattle.counting.specs.Places.{places}
 use Rattle.construction.specs.Plans.{Level, group_size, span_of}
 use Rattle.plan_laws.specs.Hearing.{RegistersStep}
-use Rattle.plan_laws.specs.Level.{StandsOver, faults_in, BlockCounts, StaysLocked}
+use Rattle.plan_laws.specs.Level.{LevelPremises, faults_in, BlockCounts, StaysLocked}
 use Rattle.plan_laws.proofs.ExplainedLevels.{explained_locks, span_is_explained}
 use Rattle.plan_laws.proofs.Locked.{stays_from}
 
 module _ (level : Level) (n f modulus : ℕ) (next : ℕ → ℕ) (faulty : ℕ → Bool)
-    (stands : StandsOver level n f modulus) (inner : 3 * f < n)
+    (stands : LevelPremises level n f modulus) (inner : 3 * f < n)
     (few : places faulty (group_size level n) ≤ level.faults)
     (t last : ℕ) (outputs : ℕ → ℕ → ℕ) (registers : ℕ → ℕ → Reg)
     (steps : RegistersStep level n next faulty t last outputs registers)

@@ -1,5 +1,5 @@
--- What a level over blocks of a counter means: a counter again, with a register more. The group has
--- the level's blocks, each of as many nodes as the counter below, and behind them its spares.
+-- What a level over blocks of a counter means: a counter again, with one more register. The group
+-- has the level's blocks, each of as many nodes as the counter below, and after them its spares.
 use Rattle.std.specs.Prelude.{ℕ, ◌+◌, ◌*◌, ◌/◌, ◌%◌, ◌^◌, ◌<◌, ◌≤◌, nat_lt, if◌then◌else◌, List}
 use Rattle.std.specs.Prelude.{map, Option, unwrap_or, IfSome}
 use Rattle.std.specs.List.{range_with_len}
@@ -9,7 +9,7 @@ use Rattle.construction.specs.Plans.{Level, group_size, span_of}
 use Rattle.construction.specs.Steps.{state_of, register_after, with_register}
 use Rattle.construction.specs.Votes.{block}
 use Rattle.counter_core.specs.Meanings.{Meaning}
-use Rattle.plan_laws.specs.Level.{StandsOver}
+use Rattle.plan_laws.specs.Level.{LevelPremises}
 
 -- what is heard of the inner outputs of the blocks' nodes, by place; spares have none
 abbrev pub outputs_heard : (below : Meaning) → Level → List State → List ℕ
@@ -17,7 +17,7 @@ outputs_heard below level heard =
     map (λ u. below.shows (u % below.nodes) (state_of heard u))
     (range_with_len 0 (level.blocks * below.nodes))
 
--- what is heard of the values of the level's registers, which stand behind those of the counter
+-- what is heard of the values of the level's registers, which stand after those of the counter
 -- below
 abbrev pub values_heard : (below : Meaning) → List State → List (Option ℕ)
 values_heard below heard = map (λ s. (register_at below.depth s).a) heard
@@ -51,14 +51,14 @@ boosted below level = record {
       (level_register below level v heard);
 }
 
--- in range below, and a finite value of the register behind is below the modulus
+-- in range below, and a finite value of the next register is below the modulus
 abbrev pub BoostedRange : (in_range : State → Type 0) (depth modulus : ℕ) → State → Type 0
 BoostedRange in_range depth modulus state =
     in_range state × IfSome (register_at depth state).a (λ a. a < modulus)
 
 -- the level may stand on this counter, and the two keep within the limits of counters
 pub record StandsOn (below : Meaning) (level : Level) : Type 0 where
-  pub stands : StandsOver level below.nodes below.faults below.modulus
+  pub stands : LevelPremises level below.nodes below.faults below.modulus
   pub most_nodes : group_size level below.nodes ≤ 256
   pub least_modulus : 2 ≤ level.modulus
   pub most_modulus : level.modulus ≤ 2 ^ 40

@@ -7,7 +7,7 @@ use Rattle.construction.specs.Plans.{Level, group_size, leaders_of, beat_of, spa
 use Rattle.construction.specs.Pointers.{pointer_of, part_of}
 use Rattle.phase_king.specs.Hearing.{AllLocked}
 use Rattle.plan_laws.specs.Hearing.{RegistersStep}
-use Rattle.plan_laws.specs.Level.{StandsOver, faults_in, BlockCounts}
+use Rattle.plan_laws.specs.Level.{LevelPremises, faults_in, BlockCounts}
 
 -- From configuration t on, for a beat, all correct nodes of sound blocks point to block b, which is
 -- sound; its correct nodes have one part of the beat, which grows. In configuration s of the window
@@ -35,7 +35,8 @@ pub record Explains (level : Level) (n f : ℕ) (faulty : ℕ → Bool) (last : 
 -- What is explained is locked.
 abbrev pub ExplainedLocks : Type 0
 ExplainedLocks = (level : Level) (n f modulus : ℕ) (next : ℕ → ℕ) (faulty : ℕ → Bool)
-    → StandsOver level n f modulus → 3 * f < n → places faulty (group_size level n) ≤ level.faults
+    → LevelPremises level n f modulus → 3 * f < n → places faulty
+    (group_size level n) ≤ level.faults
     → (from last : ℕ) (outputs : ℕ → ℕ → ℕ) (registers : ℕ → ℕ → Reg)
     → RegistersStep level n next faulty from last outputs registers
     → (t b s k : ℕ) → from ≤ t → Explains level n f faulty last outputs t b s k
@@ -52,10 +53,10 @@ pub record IsExplained (level : Level) (n f : ℕ) (faulty : ℕ → Bool) (last
   pub ends : t + beat_of level ≤ to
   pub explains : Explains level n f faulty last outputs t b s k
 
--- Where the sound blocks count for a span, there is an explanation within it.
+-- If the sound blocks count for a span, there is an explanation within it.
 abbrev pub SpanIsExplained : Type 0
 SpanIsExplained = (level : Level) (n f modulus : ℕ) (faulty : ℕ → Bool)
-    → StandsOver level n f modulus → places faulty (group_size level n) ≤ level.faults → 0 < n
+    → LevelPremises level n f modulus → places faulty (group_size level n) ≤ level.faults → 0 < n
     → (t last : ℕ) (outputs : ℕ → ℕ → ℕ) → t + span_of level ≤ last
     → ((i : ℕ) → i < level.blocks → faults_in n faulty i ≤ f
     → BlockCounts level n modulus t faulty outputs i)

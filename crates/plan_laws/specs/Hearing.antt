@@ -1,5 +1,5 @@
--- How the registers of a group go from one configuration to the next, where each node hears lists
--- of its own. The group has the level's blocks of n nodes each, and its spares behind them. Inner
+-- How the registers of a group go from one configuration to the next, each node hearing lists of
+-- its own. The group has the level's blocks of n nodes each, and its spares after them. Inner
 -- outputs, which the blocks' nodes alone have, and registers are given by place.
 use Rattle.std.specs.Prelude.{◌≡◌, ℕ, ◌+◌, ◌*◌, ◌/◌, ◌%◌, ◌<◌, ◌≤◌, List, length, Bool, false}
 use Rattle.std.specs.Prelude.{slice_index}

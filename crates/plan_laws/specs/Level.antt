@@ -1,5 +1,5 @@
--- The laws of one level over blocks of n nodes that bear f faults each and count by a modulus. Its
--- spares stand behind the blocks.
+-- The laws of one level over blocks of n nodes that tolerate f faults each and count by a modulus.
+-- Its spares stand after the blocks.
 use Rattle.std.specs.Prelude.{◌≡◌, ℕ, ◌+◌, ◌*◌, ◌%◌, ◌<◌, ◌≤◌, Bool, false}
 use Rattle.sync_types.specs.declared.states.Reg.{Reg}
 use Rattle.counting.specs.Places.{places}
@@ -9,7 +9,7 @@ use Rattle.phase_king.specs.Hearing.{AllLocked}
 use Rattle.plan_laws.specs.Hearing.{RegistersStep}
 
 -- the premises of the level over what stands below it
-pub record StandsOver (level : Level) (n f modulus : ℕ) : Type 0 where
+pub record LevelPremises (level : Level) (n f modulus : ℕ) : Type 0 where
   pub blocks : 3 ≤ level.blocks
   pub quorum : 3 * level.faults < group_size level n
   pub share : level.faults < (f + 1) * leaders_of level
@@ -36,18 +36,19 @@ pub record StaysLocked (nodes : ℕ) (next : ℕ → ℕ) (faulty : ℕ → Bool
   pub locked : (r : ℕ) → from ≤ r → r ≤ last → AllLocked nodes faulty (registers r) (value r)
   pub grows : (r : ℕ) → from ≤ r → r < last → value (r + 1) ≡ next (value r)
 
--- Where each block with at most f faulty nodes counts for a span, the registers are locked from its
+-- If each block with at most f faulty nodes counts for a span, the registers are locked from its
 -- end on. The other blocks are free, and so are the registers in configuration t.
 abbrev pub LevelSettles : Type 0
 LevelSettles = (level : Level) (n f modulus : ℕ) (next : ℕ → ℕ) (faulty : ℕ → Bool)
-    → StandsOver level n f modulus → 3 * f < n → places faulty (group_size level n) ≤ level.faults
+    → LevelPremises level n f modulus → 3 * f < n → places faulty
+    (group_size level n) ≤ level.faults
     → (t last : ℕ) (outputs : ℕ → ℕ → ℕ) (registers : ℕ → ℕ → Reg)
     → RegistersStep level n next faulty t last outputs registers
     → ((i : ℕ) → i < level.blocks → faults_in n faulty i ≤ f
     → BlockCounts level n modulus t faulty outputs i)
     → StaysLocked (group_size level n) next faulty (t + span_of level) last registers
 
--- Where the registers are locked in configuration t they stay so, whatever the inner outputs are.
+-- If the registers are locked in configuration t, they stay so, whatever the inner outputs are.
 abbrev pub LockedStaysLocked : Type 0
 LockedStaysLocked = (level : Level) (n : ℕ) (next : ℕ → ℕ) (faulty : ℕ → Bool)
     → 3 * level.faults < group_size level n → places faulty (group_size level n) ≤ level.faults

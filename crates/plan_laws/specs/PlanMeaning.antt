@@ -28,8 +28,8 @@ InRange (level ∷ below) state =
     InRange below state × IfSome (register_at (length below) state).a (λ a. a < level.modulus)
 
 -- What the counter asks of a state, whatever node's it is: the number is below the base, and each
--- finite value below its level's modulus. Registers behind those of the levels are free, and so
--- are, within these bounds, the fields that a node lacks. Each state of the plan is in range.
+-- finite value below its level's modulus. Registers after those of the levels are free, and so are,
+-- within these bounds, the fields that a node lacks. Each state of the plan is in range.
 pub record IsWithin (base : ℕ) (levels : List Level) (state : State) : Type 0 where
   pub x : state.x < base
   pub values : InRange levels state

@@ -7,7 +7,7 @@ ghost use Rattle.plan_laws.specs.Laws.{EveryPlanSettles, BlocksRun, LocksAtBound
 ghost use Rattle.plan_laws.specs.Laws.{EachHasOneNext};
 
 /// Every accepted plan settles: whatever the start and the lies, with each faulty set that the plan
-/// bears, all correct nodes show one number from the bound on, which grows by one modulo C each
+/// tolerates, all correct nodes show one number from the bound on, which grows by one modulo C each
 /// round.
 ///
 /// It holds by induction over the levels. One node is correct and counts from the start. A run cut
@@ -17,7 +17,7 @@ pub fn every_plan_settles()
     ensures { EveryPlanSettles }
 {}
 
-/// A run of a plan with one level more, cut to one of that level's blocks and to the levels below
+/// A run of a plan with one more level, cut to one of that level's blocks and to the levels below
 /// it, is a run of the plan. The faulty ids that stand in the block are shifted down to their
 /// places in it.
 ///
@@ -27,8 +27,8 @@ pub fn blocks_run()
     ensures { BlocksRun }
 {}
 
-/// In each run that reaches the bound, with a faulty set that the plan bears, the configuration at
-/// the bound is locked.
+/// In each run that reaches the bound, with a faulty set that the plan tolerates, the configuration
+/// at the bound is locked.
 pub fn locks_at_bound()
     ensures { LocksAtBound }
 {}

@@ -9,7 +9,7 @@ ghost use Rattle.plan_laws.specs.Explained.{ExplainedLocks, SpanIsExplained};
 
 use counter_core::Counter;
 
-/// Where each block with few faulty nodes counts for a span, all correct registers, those of spares
+/// If each block with few faulty nodes counts for a span, all correct registers, those of spares
 /// too, are locked at one value from the end of the span on, and that value goes on to the next one
 /// each round. The blocks may begin at any outputs.
 ///
@@ -28,7 +28,7 @@ pub fn explained_locks()
     ensures { ExplainedLocks }
 {}
 
-/// Where each block with few faulty nodes counts for a span, there is an explanation within it.
+/// If each block with few faulty nodes counts for a span, there is an explanation within it.
 pub fn span_is_explained()
     ensures { SpanIsExplained }
 {}

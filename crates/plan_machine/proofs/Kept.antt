@@ -1,9 +1,7 @@
 -- What the shape and the tower of a plan give is what its machine says.
-use Rattle.std.proofs.Common.{◌≡◌, ℕ, zero, suc, ◌-◌, ◌<◌, ◌≤◌, List, [], ◌∷◌, ◌++◌, length, get_or}
+use Rattle.std.proofs.Common.{◌≡◌, ℕ, zero, suc, ◌-◌, ◌<◌, ◌≤◌, List, [], ◌∷◌, length, get_or}
 use Rattle.std.proofs.Common.{Option, Some, None, All, refl, ap, ◌∙◌, subst, arith}
 use Rattle.std.specs.Prelude.{SomeIff}
-use Rattle.std.proofs.lemmas.List.{append-nil, drop_all}
-use Rattle.sync_types.specs.declared.states.Reg.{Reg}
 use Rattle.sync_types.specs.States.{State, zero_state}
 use Rattle.construction.specs.Plans.{Level, Plan, plan_nodes, plan_depth}
 use Rattle.construction.specs.Steps.{state_of}
@@ -15,7 +13,6 @@ use Rattle.state_codec.specs.Shapes.{Shape, shape_of, fields_at, moduli_of, shap
 use Rattle.state_codec.specs.Ranges.{InRange}
 use Rattle.state_codec.proofs.Plans.{depth_of_shape, nodes_of_shape}
 use Rattle.state_codec.proofs.PlanStates.{state_of_node}
-use Rattle.counter_core.specs.Meanings.{written}
 use Rattle.machines.specs.Machines.{IsConfiguration}
 use Rattle.plan_machine.specs.PlanMachines.{machine_of_plan, lock_of}
 use Rattle.plan_machine.specs.Kept.{IsKept}
@@ -26,13 +23,6 @@ within : (states : List State) (v : ℕ) (d e : State) → v < length states
 within [] v d e lt = absurd (omega arith)
 within (state ∷ states) zero d e lt = refl
 within (state ∷ states) (suc v) d e lt = within states v d e (omega arith)
-
--- a state that is written over one of the same depth
-pub whole_state : (d : ℕ) (s out : State) → length out.registers ≤ d → written d s out ≡ s
-whole_state d s out short =
-    ap (λ (l : List Reg). let t : State = record { x = s.x; registers = l } in t)
-    (ap (λ (l : List Reg). s.registers ++ l) (drop_all d out.registers short)
-    ∙ append-nil s.registers)
 
 -- the register of the top level is the last of all
 pub lock_is : (levels : List Level) (last : Option ℕ)

@@ -1,12 +1,10 @@
 -- The laws of nodes of any machine, of those of a plan.
-use Rattle.std.proofs.Common.{◌≡◌, ℕ, ◌<◌, ◌≤◌, List}
+use Rattle.std.proofs.Common.{◌≡◌, ℕ, ◌≤◌, List}
 use Rattle.sync_types.specs.States.{State}
-use Rattle.construction.specs.Plans.{Plan, plan_nodes, plan_bound}
+use Rattle.construction.specs.Plans.{Plan, plan_bound}
 use Rattle.construction.specs.Steps.{state_of}
-use Rattle.construction.specs.Runs.{IsState, IsBorne, IsLocked}
+use Rattle.construction.specs.Runs.{IsBorne, IsLocked}
 use Rattle.plan_numbers.specs.Premises.{IsAccepted}
-use Rattle.state_codec.specs.Reading.{read}
-use Rattle.state_codec.specs.Writing.{written}
 use Rattle.machines.specs.Laws.{IsSound}
 use Rattle.machines.specs.Machines.{Machine}
 use Rattle.machines.specs.Machines as machines
@@ -21,7 +19,6 @@ use Rattle.node_stepper.proofs.Heard as heard
 use Rattle.node_stepper.proofs.Runs as runs
 use Rattle.node_stepper.proofs.Settled as settled
 use Rattle.node_stepper.proofs.States as states
-use Rattle.plan_machine.specs.PlanNodes.{fields_of, state_behind}
 use Rattle.plan_machine.specs.NodeRuns.{IsCorrect, states_in}
 use Rattle.plan_machine.specs.Laws.{AnyLiesConnect, BorneLeavesSome, NodesRun, NodesSettle}
 use Rattle.plan_machine.specs.Laws.{NodesLock, NodesStayLocked, HeardNodesStayLocked}
@@ -136,17 +133,6 @@ module _ (plan : Plan) (accepted : IsAccepted plan) (faulty : List ℕ) (at othe
           grows = s.counts.grows;
         };
       }))
-
--- the state after packets is read back
-pub behind_reads_back : (plan : Plan) → IsAccepted plan → (v : ℕ) → v < plan_nodes plan
-    → (s : State) → IsState plan v s → (packets : List (List (List ℕ)))
-    → read (fields_of plan v) (written (fields_of plan v) (state_behind plan v s packets))
-    ≡ state_behind plan v s packets
-behind_reads_back plan accepted v lt s is packets =
-    let sound = accepted_are_sound plan accepted in
-    states.reads_back (machine_of_plan plan) sound v lt (state_behind plan v s packets)
-    (states.behind_is_state (machine_of_plan plan) sound v lt s packets
-    (((are_alike plan accepted).states v s lt).0 is))
 
 pub nodes_settle : NodesSettle
 nodes_settle plan accepted faulty borne nodes begins rounds are =

@@ -30,7 +30,7 @@ nodes = record {
       ∷ [];
 }
 
--- what each correct node hears of node 1 is its state, behind no packet and behind one
+-- what each correct node hears of node 1 is its state, after no packet and after one
 heard_first : read (fields_of four 1) (cell_given nodes 0 0 1) ≡ state_at four nodes 0 1
 unfolding moduli_of registers_bits registers_from bits number_of width
 heard_first = refl

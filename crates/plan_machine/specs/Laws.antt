@@ -32,10 +32,10 @@ module _ (plan : Plan) (faulty : List ℕ) (at : ℕ → List State) where
     pub locked : (i : ℕ) → from ≤ i → i ≤ rounds → IsLocked plan faulty (at i)
     pub counts : CountThrough from rounds
 
--- Connected nodes that begin in these states and are given these bytes: in packet t node v is
--- given `sent t v u` as the cell of a faulty node u, and before the window of each node u. As the
--- cell of a correct node it is given what that one writes after as many rounds. Each has just so
--- many packets, with a cell of each node.
+-- Connected nodes that begin in these states and are given these bytes: in packet t node v is given
+-- `sent t v u` as the cell of a faulty node u, and before the window of each node u. As the cell of
+-- a correct node it is given what that one writes after as many rounds. Each has exactly so many
+-- packets, with a cell of each node.
 pub record Connects (plan : Plan) (faulty : List ℕ) (starts : ℕ → State)
     (sent : ℕ → ℕ → ℕ → List ℕ) (begins : ℕ → ℕ) (rounds : ℕ) : Type 0 where
   pub nodes : Nodes
@@ -68,7 +68,7 @@ NodesRun = (plan : Plan) → IsAccepted plan → (faulty : List ℕ) (nodes : No
     (rounds : ℕ) → AreConnected plan faulty nodes begins rounds
     → RunThrough plan faulty (states_in plan nodes begins) rounds
 
--- So many rounds later as the bound says they count.
+-- As many rounds later as the bound says, they count.
 abbrev pub NodesSettle : Type 0
 NodesSettle = (plan : Plan) → IsAccepted plan → (faulty : List ℕ) → IsBorne plan faulty
     → (nodes : Nodes) (begins : ℕ → ℕ) (rounds : ℕ) → AreConnected plan faulty nodes begins rounds
@@ -82,14 +82,14 @@ NodesLock = (plan : Plan) → IsAccepted plan → (faulty : List ℕ) → IsBorn
     → plan_bound plan ≤ rounds
     → IsLocked plan faulty (states_in plan nodes begins (plan_bound plan))
 
--- Where they are locked they stay so, and count, whatever cells of faulty nodes follow.
+-- Once they are locked, they stay so, and count, whatever cells of faulty nodes follow.
 abbrev pub NodesStayLocked : Type 0
 NodesStayLocked = (plan : Plan) → IsAccepted plan → (faulty : List ℕ) → IsBorne plan faulty
     → (nodes : Nodes) (begins : ℕ → ℕ) (rounds : ℕ) → AreConnected plan faulty nodes begins rounds
     → (from : ℕ) → from ≤ rounds → IsLocked plan faulty (states_in plan nodes begins from)
     → StayLockedThrough plan faulty (states_in plan nodes begins) from rounds
 
--- So they do where states are lost, as long as each correct node hears those of N - F correct nodes
+-- So they do when states are lost, as long as each correct node hears those of N - F correct nodes
 -- in each round, itself among them.
 abbrev pub HeardNodesStayLocked : Type 0
 HeardNodesStayLocked = (plan : Plan) → IsAccepted plan → (faulty : List ℕ) → IsBorne plan faulty

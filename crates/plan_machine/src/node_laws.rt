@@ -20,7 +20,7 @@ pub fn borne_leaves_some()
 /// Nodes that are connected for a window of rounds, so that each correct one hears the states of
 /// the other correct ones, are a run of the plan there: whatever bytes, of whatever length, they
 /// are given as the cells of faulty nodes, and whatever was before. The window begins in each node
-/// at a packet of its own, as where some were started anew while others went on.
+/// at a packet of its own, as when some were started anew while others went on.
 pub fn nodes_run()
     ensures { NodesRun }
 {}
@@ -41,7 +41,7 @@ pub fn nodes_stay_locked()
     ensures { NodesStayLocked }
 {}
 
-/// So they do where states are lost, as long as each correct node hears in each round the true
+/// So they do when states are lost, as long as each correct node hears in each round the true
 /// states of N - F correct nodes, itself among them, whichever these are.
 pub fn heard_nodes_stay_locked()
     ensures { HeardNodesStayLocked }

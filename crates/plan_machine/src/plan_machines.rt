@@ -47,7 +47,7 @@ impl PlanMachine {
         requires { shape ≡ shape_of plan.now }
         ensures { IfOk result (λ machine. machine ≡ plan.now) }
     {
-        plan.tell();
+        plan.facts();
         let tower = build(alloc, plan)?;
         Ok(PlanMachine { tower, shape })
     }
@@ -82,7 +82,7 @@ impl Machine for PlanMachine {
         self.tower.depth().checked_sub(1)
     }
 
-    fn tell(&self) {
+    fn facts(&self) {
         self.tower.tell();
     }
 

@@ -11,7 +11,7 @@ abbrev pub line : (blocks faults modulus spares : ℕ) → Level
 line blocks faults modulus spares =
     record { blocks = blocks; faults = faults; modulus = modulus; spares = spares }
 
--- a plan with a level more, on top
+-- a plan with one more level, on top
 abbrev pub with_level : Plan → Level → Plan
 with_level plan level = record plan { levels = level ∷ plan.levels }
 

@@ -47,7 +47,7 @@ fn wide_span(k: u64, f: u64) -> u128
     u128::from(beat(f)) * turns.pow(k as u32)
 }
 
-/// Tests the premises in their order, and gives the span where all are met.
+/// Tests the premises in their order, and gives the span if all are met.
 fn tested_span(below: &Below, k: u64, f: u64, c: u64, s: u64) -> Result<u64, Premise>
     requires { IsSized below.now }
     ensures answer { result ≡ unless (first_premise below.now (line k f c s))

@@ -6,7 +6,7 @@ ghost use Rattle.plan_numbers.specs.Stacked.{AreSomeLevels};
 use crate::numbers::LevelNums;
 
 /// The level from which on the node at a place of a group of these levels takes part: that of which
-/// it is a spare, or 0 where it is none. The lowest level stands first.
+/// it is a spare, or 0 if it is none. The lowest level stands first.
 pub fn low_in(levels: &[LevelNums], place: u32) -> usize
     requires { AreSomeLevels levels.now }
     ensures { result ≡ low_of (levels_in levels.now) place }

@@ -34,7 +34,7 @@ pub struct LevelNums {
     pub span: u64,
     /// The modulus that the level counts by, 2 to 2^40.
     pub modulus: u64,
-    /// How many spare nodes stand behind the blocks, those of this level alone; 0 in version 1.
+    /// How many spare nodes stand after the blocks, those of this level alone; 0 in version 1.
     pub spares: u32,
     /// In how many rounds it settles, from any states.
     pub bound: u64,

@@ -51,7 +51,7 @@ pub struct Plan {
     top: Below,
 }
 
-// Written out, so that what lets go of one calls this, and no more.
+// Written out, so that code that drops one has a single call.
 impl Drop for Plan {
     fn drop(self) {
         let Plan {
@@ -92,7 +92,7 @@ impl Plan {
 
     /// A plan of version 1 or 2 without levels, of one node that counts by `c0`. Version 2 may have
     /// spare nodes. It takes all the memory that the plan ever needs. An error is the first premise
-    /// that `c0` fails (`Limit` above 2^40, `Modulus` below 2), or `NoMemory` where it fails none.
+    /// that `c0` fails (`Limit` above 2^40, `Modulus` below 2), or `NoMemory` if it fails none.
     pub fn base_of(alloc: Global, version: u32, c0: u64) -> Result<Plan, PremiseError>
         requires oldest { 1 ≤ version }
         requires newest { version ≤ 2 }
@@ -235,7 +235,7 @@ impl Plan {
         &self.levels[i]
     }
 
-    /// The level from which on node `v` takes part: that of which it is a spare, or 0 where it is
+    /// The level from which on node `v` takes part: that of which it is a spare, or 0 if it is
     /// none.
     pub fn low(&self, v: u32) -> usize
         requires { v < plan_nodes self.now }
@@ -246,7 +246,7 @@ impl Plan {
 
     /// Tells a caller's proof that the plan is accepted, and how large its numbers are. It does
     /// nothing when it runs.
-    pub fn tell(&self)
+    pub fn facts(&self)
         ensures accepted { IsAccepted self.now }
         ensures sized { IsSized (numbers_below self.now) }
         ensures depth { plan_depth self.now ≤ 5 }

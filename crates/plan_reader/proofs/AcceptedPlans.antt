@@ -53,7 +53,7 @@ base_kept version (Some (base ∷ [])) p =
     })
 base_kept version (Some (base ∷ n ∷ numbers)) p = tt
 
--- a level more fits the version
+-- one more level fits the version
 fits_more : (plan : Plan) (level : Level) → IsAccepted plan → FitsVersion plan.version level
     → first_premise (numbers_below plan) level ≡ None → IsAccepted (with_level plan level)
 fits_more plan level p fits none = record {

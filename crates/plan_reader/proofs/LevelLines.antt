@@ -5,8 +5,10 @@ use Rattle.std.specs.List.{slice_get, flat_map}
 use Rattle.std.proofs.lemmas.List.{take_all}
 use Rattle.std.proofs.lemmas.Option.{get_or_from_slice_get, slice_get_within}
 use Rattle.std.proofs.lemmas.List.FromFn.{length-enumerate_from, get_or-enumerate_from}
-use Rattle.texts.specs.Growth.{Told, Wrote, Cut}
-use Rattle.texts.proofs.Growth.{wrote_at, cut_at}
+use Rattle.texts.specs.Growth.{SinkState}
+use Rattle.edge_io.specs.Writing.{Writes}
+use Rattle.edge_io.specs.declared.writer.Writer.{Writer}
+use Rattle.edge_io.proofs.Writing.{writes_at, writes_is}
 use Rattle.construction.specs.Plans.{Level, Plan, plan_depth}
 use Rattle.plan_numbers.specs.declared.numbers.LevelNums.{LevelNums}
 use Rattle.plan_numbers.specs.Numbers.{numbers_of, numbers_over, below_of, level_numbers}
@@ -42,22 +44,19 @@ module _ (plan : Plan) (i : ℕ) (nums : LevelNums)
       (get_or_from_slice_get (level_numbers plan) i nums nums at)
 
   -- one more line is written
-  pub wrote_level : (s t u : Told) → Wrote (first_lines plan i) s t
-      → Wrote (level_line plan.version (1 + i, nums)) t u → Wrote (first_lines plan (i + 1)) s u
-  wrote_level s t u before line =
-      wrote_at (level_line plan.version) (indexed_levels plan) i (0, nums) s t u within before
-      (rw here line)
-
-  -- a line is cut
-  pub cut_level : (s t u : Told) → Wrote (first_lines plan i) s t
-      → Cut (level_line plan.version (1 + i, nums)) t u → Cut (level_lines plan) s u
-  cut_level s t u before line =
-      cut_at (level_line plan.version) (indexed_levels plan) i (0, nums) s t u within before
+  pub writes_level : {K : Type 0} {told : K → SinkState} {x y z : Writer K}
+      → Writes told (first_lines plan i) x y
+      → Writes told (level_line plan.version (1 + i, nums)) y z
+      → Writes told (first_lines plan (i + 1)) x z
+  writes_level before line =
+      writes_at (level_line plan.version) (indexed_levels plan) i (0, nums) within before
       (rw here line)
 
 -- all lines are written
-pub wrote_levels : (plan : Plan) (i : ℕ) (s t : Told) → plan_depth plan ≤ i
-    → Wrote (first_lines plan i) s t → Wrote (level_lines plan) s t
-wrote_levels plan i s t all wrote =
+pub writes_levels : {K : Type 0} {told : K → SinkState} {x y : Writer K} (plan : Plan) (i : ℕ)
+    → plan_depth plan ≤ i → Writes told (first_lines plan i) x y
+    → Writes told (level_lines plan) x y
+writes_levels plan i all wrote =
     let most : length (indexed_levels plan) ≤ i = omega (arith, length-indexed_levels plan) in
-    rw (← take_all i (indexed_levels plan) most) wrote
+    writes_is (ap (flat_map (level_line plan.version)) (take_all i (indexed_levels plan) most))
+    wrote

@@ -1,14 +1,16 @@
 -- The texts of the levels of a plan, one after the other, the lowest first. What the text of one
--- level
--- is does not matter.
+-- level is does not matter.
 use Rattle.std.proofs.Common.{◌≡◌, ℕ, ◌+◌, ◌<◌, ◌≤◌, List, [], ◌∷◌, ◌++◌, length, take, map}
 use Rattle.std.proofs.Common.{reverse, get_or, Some, refl, sym, ap, ◌∙◌, arith}
 use Rattle.std.specs.List.{slice_get, flat_map}
 use Rattle.std.proofs.lemmas.List.{take_all, map-append, length-map, length-reverse, get_or-map}
 use Rattle.std.proofs.lemmas.Grind.{reverse_onto}
 use Rattle.std.proofs.lemmas.Option.{get_or_from_slice_get, slice_get_within}
-use Rattle.texts.specs.Growth.{Told, Wrote, Cut}
+use Rattle.texts.specs.Growth.{SinkState, Wrote, Cut}
 use Rattle.texts.proofs.Growth.{wrote_at, cut_at}
+use Rattle.edge_io.specs.Writing.{Writes}
+use Rattle.edge_io.specs.declared.writer.Writer.{Writer}
+use Rattle.edge_io.proofs.Writing.{writes_at, writes_is}
 use Rattle.construction.specs.Plans.{Level, Plan, plan_depth}
 use Rattle.plan_numbers.specs.declared.numbers.LevelNums.{LevelNums}
 use Rattle.plan_numbers.specs.Numbers.{level_of, numbers_of, numbers_over, below_of, level_numbers}
@@ -44,20 +46,39 @@ module _ (text : Level → List ℕ) (plan : Plan) (i : ℕ) (nums : LevelNums)
       ∙ ap level_of (get_or_from_slice_get (level_numbers plan) i nums nums at)
 
   -- one more is written
-  pub wrote_level : (s t u : Told) → Wrote (first_texts text plan i) s t
+  pub wrote_level : (s t u : SinkState) → Wrote (first_texts text plan i) s t
       → Wrote (text (level_of nums)) t u → Wrote (first_texts text plan (i + 1)) s u
   wrote_level s t u before one =
       wrote_at text (reverse plan.levels) i (level_of nums) s t u within before (rw here one)
 
   -- one is cut
-  pub cut_level : (s t u : Told) → Wrote (first_texts text plan i) s t
+  pub cut_level : (s t u : SinkState) → Wrote (first_texts text plan i) s t
       → Cut (text (level_of nums)) t u → Cut (flat_map text (reverse plan.levels)) s u
   cut_level s t u before one =
       cut_at text (reverse plan.levels) i (level_of nums) s t u within before (rw here one)
 
 -- all are written
-pub wrote_levels : (text : Level → List ℕ) (plan : Plan) (i : ℕ) (s t : Told) → plan_depth plan ≤ i
+pub wrote_levels : (text : Level → List ℕ) (plan : Plan) (i : ℕ) (s t : SinkState)
+    → plan_depth plan ≤ i
     → Wrote (first_texts text plan i) s t → Wrote (flat_map text (reverse plan.levels)) s t
 wrote_levels text plan i s t all wrote =
     let most : length (reverse plan.levels) ≤ i = omega (arith, length-reverse plan.levels) in
     rw (← take_all i (reverse plan.levels) most) wrote
+
+-- ---- the same by a writer
+
+pub writes_level : {K : Type 0} {told : K → SinkState} {x y z : Writer K}
+    (text : Level → List ℕ) (plan : Plan) (i : ℕ) (nums : LevelNums)
+    → slice_get (level_numbers plan) i ≡ Some nums → Writes told (first_texts text plan i) x y
+    → Writes told (text (level_of nums)) y z → Writes told (first_texts text plan (i + 1)) x z
+writes_level text plan i nums at before one =
+    writes_at text (reverse plan.levels) i (level_of nums) (within text plan i nums at) before
+    (rw (here text plan i nums at) one)
+
+pub writes_levels : {K : Type 0} {told : K → SinkState} {x y : Writer K}
+    (text : Level → List ℕ) (plan : Plan) (i : ℕ) → plan_depth plan ≤ i
+    → Writes told (first_texts text plan i) x y
+    → Writes told (flat_map text (reverse plan.levels)) x y
+writes_levels text plan i all wrote =
+    let most : length (reverse plan.levels) ≤ i = omega (arith, length-reverse plan.levels) in
+    writes_is (ap (flat_map text) (take_all i (reverse plan.levels) most)) wrote

@@ -1,4 +1,4 @@
--- Reading numbers behind their names, one after the other.
+-- Reading numbers after their names, one after the other.
 use Rattle.std.proofs.Common.{◌≡◌, ℕ, ◌+◌, ◌≤◌, Bool, true, false, List, [], ◌∷◌, ◌++◌, length}
 use Rattle.std.proofs.Common.{take, Option, Some, None, refl, sym, ap, ◌∙◌, append_assoc, arith}
 use Rattle.std.specs.Prelude.{slice_index, if◌then◌else◌}
@@ -8,26 +8,6 @@ use Rattle.texts.specs.Numbers.{number_of}
 use Rattle.texts.specs.Shapes.{onto_numbers}
 use Rattle.texts.proofs.Shapes.{with_front}
 use Rattle.plan_reader.specs.TableLines.{numbers_named}
-
--- a number moves from the rest to the front
-regroup : (front : List ℕ) (n : ℕ) (ns : Option (List ℕ))
-    → with_front front (onto_numbers (Some n) ns) ≡ with_front (front ++ n ∷ []) ns
-regroup front n None = refl
-regroup front n (Some ns) = ap Some (sym (append_assoc front (n ∷ []) ns))
-
--- one more number
-pub named_more : (front : List ℕ) (name word value : List ℕ) (names words : List (List ℕ)) (n : ℕ)
-    → bytes_eq word name ≡ true → number_of value ≡ Some n
-    → with_front front (numbers_named (name ∷ names) (word ∷ value ∷ words))
-    ≡ with_front (front ++ n ∷ []) (numbers_named names words)
-named_more front name word value names words n same is =
-    rw (same, is) (regroup front n (numbers_named names words))
-
--- no word is left, and all numbers are read
-pub named_done : (numbers : List ℕ) (i : ℕ) → length numbers ≤ i
-    → with_front (take i numbers) (Some []) ≡ Some numbers
-named_done numbers i le =
-    ap Some (append-nil (take i numbers) ∙ take_all i numbers le)
 
 onto_length : (n : Option ℕ) (ns : Option (List ℕ)) (all : List ℕ) (k : ℕ)
     → ((more : List ℕ) → ns ≡ Some more → length more ≡ k) → onto_numbers n ns ≡ Some all

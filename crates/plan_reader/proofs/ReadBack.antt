@@ -136,7 +136,7 @@ module _ (base : ℕ) (below : List Level) (level : Level) (taken number : ℕ) 
       let no_spares = fits one in rw one (level_read_1 no_spares)
   level_read version (inr two) fits = rw two level_read_2
 
--- the top level's line stands behind those of the levels below it
+-- the top level's line stands after those of the levels below it
 top_text : (version : ℕ) (level : Level) (below : List Level) (rest : List ℕ)
     → flat_map (level_text version) (reverse (level ∷ below)) ++ rest
     ≡ flat_map (level_text version) (reverse below) ++ (level_text version level ++ rest)
@@ -185,7 +185,7 @@ accepted_base : (base : ℕ) (levels : List Level) → LevelsAccepted base level
 accepted_base base [] accepted = accepted
 accepted_base base (level ∷ below) accepted = accepted_base base below accepted.0
 
--- the text is read at the front of any text
+-- the text is read at the beginning of any text
 pub text_is_read : PlanTextIsRead
 text_is_read plan version rest accepted later most =
     let known = later_version plan.version version accepted.oldest later most in

@@ -46,7 +46,7 @@ level_small base below level none =
       spares = omega (arith, met.most_nodes);
     }
 
--- the words of the lines, behind the first
+-- the words of the lines after their first
 abbrev pub after_plan : (version : ℕ) → List (List ℕ)
 after_plan version = decimal version ∷ []
 

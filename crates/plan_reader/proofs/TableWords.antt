@@ -20,7 +20,7 @@ use Rattle.plan_reader.proofs.NamedNumbers.{length_named}
 abbrev pub IsShort : ℕ → Type 0
 IsShort n = n < 10 ^ 15
 
--- names with numbers behind them
+-- names with numbers after them
 unfoldable pub named_words : (names : List (List ℕ)) (numbers : List ℕ) → List (List ℕ)
 named_words [] numbers = []
 named_words (name ∷ names) [] = []

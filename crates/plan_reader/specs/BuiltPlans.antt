@@ -4,7 +4,7 @@ use Rattle.construction.specs.Plans.{Plan}
 use Rattle.plan_reader.specs.declared.stages.PlanStage.{PlanStage}
 use Rattle.plan_reader.specs.declared.stages.PlanStage.TheVariants.{Begun, Built}
 
--- the plan that was built, where the base line was read
+-- the plan that was built, if the base line was read
 abbrev pub built_plan : PlanStage → Option Plan
 built_plan (Built plan) = Some plan
 built_plan other = None

@@ -8,7 +8,7 @@ pub record HasNoLine (text : List ℕ) : Type 0 where
   pub lines : whole_lines text ≡ []
   pub rest : open_rest text ≡ text
 
--- this line is the first, and this stands behind it
+-- this line is the first, and this stands after it
 pub record HasFirstLine (text line behind : List ℕ) : Type 0 where
   pub lines : whole_lines text ≡ line ∷ whole_lines behind
   pub rest : open_rest text ≡ open_rest behind

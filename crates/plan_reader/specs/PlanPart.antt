@@ -33,12 +33,12 @@ level_by plan other = Err Form
 abbrev pub after_base : (version : ℕ) → List ℕ → Result Plan Premise
 after_base version line = base_by version (numbers_after (codes "base") 1 (words_of line))
 
--- no spares behind three numbers
+-- no spares after three numbers
 abbrev pub without_spares : Option (List ℕ) → Option (List ℕ)
 without_spares (Some (k ∷ f ∷ c ∷ [])) = Some (k ∷ f ∷ c ∷ 0 ∷ [])
 without_spares other = None
 
--- `K F C spare S` behind `level`
+-- `K F C spare S` after `level`
 abbrev pub with_spares : List (List ℕ) → Option (List ℕ)
 with_spares (level ∷ k ∷ f ∷ c ∷ spare ∷ s ∷ []) =
     if bytes_eq level (codes "level") && bytes_eq spare (codes "spare")
@@ -72,20 +72,20 @@ abbrev pub begins : Option ℕ → Next PlanStage Plan Premise
 begins None = refuses Form
 begins (Some version) = goes (Begun version)
 
--- a line behind those that were read
+-- a line after those that were read
 abbrev pub plan_step : PlanStage → List ℕ → Next PlanStage Plan Premise
 plan_step Unread line = begins (version_of line)
 plan_step (Begun version) line = goes_with (after_base version line)
 plan_step (Built plan) line =
     if bytes_eq line (codes "end") then ends plan else goes_with (after_level plan line)
 
--- The plan part at the front of an input: its plan, how many lines it has through `end`, and the
--- lines behind it; or the first line that fails, with the first premise that it fails.
+-- The plan part at the beginning of an input: its plan, how many lines it has through `end`, and
+-- the lines after it; or the first line that fails, with the first premise that it fails.
 abbrev pub plan_of : List ℕ → Result (Found Plan) (At Premise)
 plan_of input = part_from (with_skips plan_step Form) Form Unread 0 1 (lines_of input)
 
--- what stands at the front of an input that was read as this plan, so many bytes through its `end`
--- line, and so many lines
+-- what stands at the beginning of an input that was read as this plan, so many bytes through its
+-- `end` line, and so many lines
 abbrev pub found_in : List ℕ → Plan × ℕ × ℕ → Found Plan
 found_in input (plan, bytes, lines) =
     record { value = plan; taken = lines; behind = lines_of (drop bytes input) }
@@ -95,12 +95,12 @@ abbrev pub unless_followed : Option ℕ → Plan → Result Plan (At Premise)
 unless_followed None plan = Ok plan
 unless_followed (Some number) plan = Err (record { line = number; rule = Form })
 
--- the plan of a part, behind which only skipped lines may stand
+-- the plan of a part, after which only skipped lines may stand
 abbrev pub alone : Result (Found Plan) (At Premise) → Result Plan (At Premise)
 alone (Ok found) = unless_followed (first_unskipped (1 + found.taken) found.behind) found.value
 alone (Err refusal) = Err refusal
 
--- the plan of an input that is a plan part, with skipped lines alone behind it; or the first line
+-- the plan of an input that is a plan part, with only skipped lines after it; or the first line
 -- that fails
 abbrev pub whole_plan_of : List ℕ → Result Plan (At Premise)
 whole_plan_of input = alone (plan_of input)

@@ -34,7 +34,7 @@ abbrev pub in_version : (version : ℕ) → Plan → Plan
 in_version version plan = record plan { version = version }
 
 -- The text of an accepted plan, in its own version or a later one, is read as that plan, at the
--- front of any text.
+-- beginning of any text.
 abbrev pub PlanTextIsRead : Type 0
 PlanTextIsRead =
     (plan : Plan) (version : ℕ) (rest : List ℕ)

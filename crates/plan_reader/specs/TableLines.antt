@@ -24,7 +24,7 @@ use Rattle.plan_reader.specs.declared.table_stages.TableStage.TheVariants.{Built
 
 -- ---- the words of a line
 
--- each of these names with a number behind it, and nothing else
+-- each of these names with a number after it, and nothing else
 abbrev pub numbers_named : (names words : List (List ℕ)) → Option (List ℕ)
 numbers_named [] [] = Some []
 numbers_named [] (w ∷ ws) = None
@@ -153,7 +153,7 @@ table_step (Stated plan) line = if bytes_eq line (codes "end") then ends plan el
 
 -- ---- all lines
 
--- behind the last line nothing may stand
+-- after the last line nothing may stand
 abbrev pub unless_followed : List (List ℕ) → (rest : List ℕ) → Plan → (last : ℕ)
     → Result Plan (At Cause)
 unless_followed [] [] plan last = Ok plan
@@ -164,7 +164,7 @@ alone rest (Ok found) = unless_followed found.behind rest found.value found.take
 alone rest (Err refusal) = Err refusal
 
 -- The plan of a table text, or its first line that fails, with the first cause. Each line has its
--- newline; a text that lacks its end is refused at the line behind the last that has one.
+-- newline; a text that lacks its end is refused at the line after the last that has one.
 abbrev pub table_of : List ℕ → Result Plan (At Cause)
 table_of text =
     alone (open_rest text) (part_from table_step (Premise Form) Unread 0 1 (whole_lines text))

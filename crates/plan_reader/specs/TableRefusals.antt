@@ -1,20 +1,12 @@
 -- What an error of reading a table text says of the plan that is defined. Want of memory says
 -- nothing.
-use Rattle.std.specs.Prelude.{◌≡◌, ℕ, Result, Ok, Err}
+use Rattle.std.specs.Prelude.{◌≡◌, ℕ, Result, Err}
 use Rattle.texts.specs.Parts.{At}
 use Rattle.sync_types.specs.declared.answers.Cause.{Cause}
 use Rattle.sync_types.specs.declared.answers.Cause.TheVariants.{Premise}
 use Rattle.sync_types.specs.declared.answers.Premise.TheVariants.{Form}
-use Rattle.edge_io.specs.declared.taking.TakeError.{TakeError}
-use Rattle.edge_io.specs.declared.taking.TakeError.TheVariants as take
 use Rattle.plan_reader.specs.declared.table_refusals.TableError.{TableError}
 use Rattle.plan_reader.specs.declared.table_refusals.TableError.TheVariants as table
-
--- a line is taken, or refused, exactly as defined
-abbrev pub TakesAsDefined : {V : Type 0} → Result V (TakeError Cause) → Result V Cause → Type 0
-TakesAsDefined (Ok value) defined = defined ≡ Ok value
-TakesAsDefined (Err take.NoMemory) defined = Unit {0}
-TakesAsDefined (Err (take.Refused cause)) defined = defined ≡ Err cause
 
 -- a refusal is exactly the one that is defined
 abbrev pub FailsAsDefined : {V : Type 0} → TableError → Result V (At Cause) → Type 0

@@ -14,7 +14,7 @@ version_line kind version = concat (kind ∷ decimal version ∷ codes "\n" ∷ 
 abbrev pub base_line : ℕ → List ℕ
 base_line base = concat (codes "base " ∷ decimal base ∷ codes "\n" ∷ [])
 
--- the end of a level's line: its spares, which a text of version 1 has not
+-- the end of a level's line: its spares, which a text of version 1 lacks
 abbrev pub spares_end : (version spares : ℕ) → List ℕ
 spares_end version spares =
     if version == 1 then codes "\n" else concat (codes " spare " ∷ decimal spares ∷ codes "\n" ∷ [])

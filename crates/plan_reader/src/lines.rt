@@ -1,50 +1,42 @@
-ghost use Rattle.texts.specs.Growth.{Puts};
+ghost use Rattle.edge_io.specs.Writing.{Writes};
 ghost use Rattle.plan_reader.specs.Tables.{version_line, base_line, spares_end};
 
-use edge_io::{Piece, Sink, WriteFault, put_all, put_pieces};
+use edge_io::{Piece, Sink, Writer};
 use plan_numbers::Plan;
 
-/// Writes the first line of a text, behind whose kind and a space its version stands.
-pub fn put_version<K: Sink>(sink: &mut K, kind: &[u8], version: u32) -> Result<(), WriteFault>
-    ensures { Puts result (version_line kind.now version) (K.told sink.old) (K.told sink.new) }
+/// Writes the first line of a text: its kind, which ends with a space, and its version.
+pub fn put_version<K: Sink>(writer: &mut Writer<'_, K>, kind: &[u8], version: u32)
+    ensures { Writes K.told (version_line kind.now version) writer.old writer.new }
 {
-    put_pieces(
-        sink,
-        &[
-            Piece::Text(kind),
-            Piece::Number(u64::from(version)),
-            Piece::Text(b"\n"),
-        ],
-    )
+    writer.pieces(&[
+        Piece::Text(kind),
+        Piece::Number(u64::from(version)),
+        Piece::Text(b"\n"),
+    ]);
 }
 
 /// Writes the line of a plan's base.
-pub fn put_base<K: Sink>(sink: &mut K, plan: &Plan) -> Result<(), WriteFault>
-    ensures { Puts result (base_line plan.now.base) (K.told sink.old) (K.told sink.new) }
+pub fn put_base<K: Sink>(writer: &mut Writer<'_, K>, plan: &Plan)
+    ensures { Writes K.told (base_line plan.now.base) writer.old writer.new }
 {
-    put_pieces(
-        sink,
-        &[
-            Piece::Text(b"base "),
-            Piece::Number(plan.base_modulus()),
-            Piece::Text(b"\n"),
-        ],
-    )
+    writer.pieces(&[
+        Piece::Text(b"base "),
+        Piece::Number(plan.base_modulus()),
+        Piece::Text(b"\n"),
+    ]);
 }
 
 /// Writes the end of a level's line: its spares in version 2, and a newline.
-pub fn put_spares_end<K: Sink>(sink: &mut K, version: u32, spares: u32) -> Result<(), WriteFault>
-    ensures { Puts result (spares_end version spares) (K.told sink.old) (K.told sink.new) }
+pub fn put_spares_end<K: Sink>(writer: &mut Writer<'_, K>, version: u32, spares: u32)
+    ensures { Writes K.told (spares_end version spares) writer.old writer.new }
 {
     if version == 1 {
-        return put_all(sink, b"\n");
-    }
-    put_pieces(
-        sink,
-        &[
+        writer.byte(b'\n');
+    } else {
+        writer.pieces(&[
             Piece::Text(b" spare "),
             Piece::Number(u64::from(spares)),
             Piece::Text(b"\n"),
-        ],
-    )
+        ]);
+    }
 }

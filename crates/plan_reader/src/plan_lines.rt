@@ -12,9 +12,8 @@ impl PlanLines {
     /// Takes the next line of the part, without its newline: Some plan exactly at its `end` line,
     /// after which a further part may be read. A skipped line changes nothing.
     ///
-    /// `Refused` is the first premise that the line fails: `Form` where it is longer than 4096
-    /// bytes, has an empty word or holds a carriage return. `NoMemory` comes at the base line
-    /// alone.
+    /// `Refused` is the first premise that the line fails: `Form` if it is longer than 4096 bytes,
+    /// has an empty word or holds a carriage return. `NoMemory` comes at the base line alone.
     pub fn take(&mut self, line: &[u8]) -> Result<Option<Plan>, PremiseError>
         ensures { TakesPlanLine (with_skips plan_step Form self.old line.now) self.new result }
     {

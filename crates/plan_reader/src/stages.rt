@@ -1,6 +1,6 @@
 ghost use Rattle.std.specs.Prelude.{◌≡◌, ◌≤◌, Ok, Err, MatchResult};
 ghost use Rattle.plan_reader.specs.PlanPart.{after_base, after_level};
-ghost use Rattle.plan_reader.specs.PlanRefusals.{TakesAsDefined};
+ghost use Rattle.edge_io.specs.Taking.{TakesAsDefined};
 
 use crate::shapes::{level_quadruple, plan_version};
 use edge_io::{LineReader, TakeError, numbers_after};
@@ -117,7 +117,7 @@ fn push_level(plan: &mut Plan, line: &[u8]) -> Result<(), Premise>
         (λ _. after_level plan.old line.now ≡ Ok plan.new)
         (λ premise. after_level plan.old line.now ≡ Err premise) }
 {
-    plan.tell();
+    plan.facts();
     let Some(numbers) = level_quadruple(plan.version(), line) else {
         return Err(Premise::Form);
     };

@@ -5,8 +5,8 @@ ghost use Rattle.plan_reader.specs.TableLines.{version_named};
 
 use edge_io::{Words, number};
 
-/// The numbers of a line that is these names, each with a number behind it, where so many words are
-/// left. None exactly where the line is not of that shape.
+/// The numbers of a line that is these names, each with a number after it, if so many words are
+/// left. None exactly if the line is not of that shape.
 fn numbers_named<const N: usize>(mut words: Words<'_>, names: &[u8]) -> Option<[u64; N]>
     requires { length (words_of names.now) ≡ N }
     ensures { result ≡ numbers_named (words_of names.now) words.entry }

@@ -19,7 +19,7 @@ fn newline_in(text: &[u8]) -> Option<usize>
     text.iter().position(|byte| *byte == NEWLINE)
 }
 
-/// The first line that ends with a newline, without it, and what stands behind that.
+/// The first line that ends with a newline, without it, and what stands after that.
 fn first_ended(text: &[u8]) -> Option<(&[u8], &[u8])>
     ensures { MatchOption result (HasNoLine text.now) (λ parts. HasFirstLine text.now parts.0.now
         parts.1.now) }
@@ -40,10 +40,10 @@ fn ill_formed(line: u64) -> TableError
 
 /// Reads a table text: the plan whose table text it is.
 ///
-/// `Refused` is the first line that fails, for the first cause: `Form` where it is not of its
-/// shape, lacks its newline or may not stand there, or where the text ends before its `end`; the
-/// first premise that a base or a level fails; `Value` where a number is not the one that the plan
-/// has. Memory is taken at the base line alone, that of the plan.
+/// `Refused` is the first line that fails, for the first cause: `Form` if it is not of its shape,
+/// lacks its newline or may not stand there, or if the text ends before its `end`; the first
+/// premise that a base or a level fails; `Value` if a number is not the one that the plan has.
+/// Memory is taken at the base line alone, that of the plan.
 pub fn read_table(alloc: Global, bytes: &[u8]) -> Result<Plan, TableError>
     ensures { MatchResult result
         (λ plan. table_of bytes.now ≡ Ok plan)

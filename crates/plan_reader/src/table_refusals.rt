@@ -4,8 +4,8 @@ use thiserror::Error;
 /// The line of a table text that is refused, and why.
 #[derive(Clone, Copy, Debug, PartialEq, Eq)]
 pub struct TableRefusal {
-    /// The line's number, from 1. Where the text lacks its end it is the line behind the last one
-    /// with a newline.
+    /// The line's number, from 1. If the text lacks its end, it is the line after the last one with
+    /// a newline.
     pub line: u64,
     /// The first cause for which the line is refused.
     pub cause: Cause,

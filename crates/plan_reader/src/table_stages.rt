@@ -7,7 +7,7 @@ ghost use Rattle.plan_reader.specs.TableLines.{same_numbers, plan_values, top_va
 ghost use Rattle.plan_reader.specs.TableLines.{level_behind, built_by, level_stated};
 ghost use Rattle.plan_reader.specs.TableLines.{plan_stated};
 ghost use Rattle.plan_reader.specs.TableVersions.{HasVersion};
-ghost use Rattle.plan_reader.specs.TableRefusals.{TakesAsDefined};
+ghost use Rattle.edge_io.specs.Taking.{TakesAsDefined};
 
 use crate::table_lines::{level_stated, plan_stated, table_version};
 use edge_io::{LineReader, TakeError, numbers_after};
@@ -100,8 +100,8 @@ impl LineReader for TableReader {
     }
 }
 
-/// What stands behind the line of a level or of the whole plan, or the first cause for which the
-/// line is refused.
+/// The stage after the line of a level or of the whole plan, or the first cause for which the line
+/// is refused.
 fn behind_built(mut plan: Plan, line: &[u8]) -> Result<TableStage, Cause>
     ensures exact { MatchResult result
         (λ stage. built_by plan (level_stated plan.version (words_of line.now))

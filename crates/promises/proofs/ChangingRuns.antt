@@ -18,7 +18,7 @@ use Rattle.construction.proofs.Ranges.{length-step_in, step_is_state}
 use Rattle.plan_numbers.specs.Premises.{IsAccepted}
 use Rattle.plan_laws.specs.PlanMeaning.{plan_meaning}
 use Rattle.plan_laws.proofs.PlanCounter.{positive}
-use Rattle.counter_core.specs.Overlays.{Layer, StandsOver, HasValues, KeepsRange, AreNew}
+use Rattle.counter_core.specs.Overlays.{Layer, LayerFits, HasValues, KeepsRange, AreNew}
 use Rattle.layer_laws.specs.Scenes.{Scene, kept_of, layer_step, new_state}
 use Rattle.layer_laws.specs.LayerRuns.{IsLayerState, IsLayerConfiguration, IsLayerTable, LayerRound}
 use Rattle.layer_laws.specs.Played.{Telling, TellsInRange, IsKeptFor, lies_in, heard_in}
@@ -118,7 +118,7 @@ module _ {Kept : Type 0} (layer : Layer Kept) (plan : Plan) (faulty : List ℕ) 
         (omega (arith, vlt, long)) row.states
 
     -- the next scene is the second one of an era that begins here
-    states_are : IsAccepted plan → StandsOver layer (plan_meaning plan) → KeepsRange layer
+    states_are : IsAccepted plan → LayerFits layer (plan_meaning plan) → KeepsRange layer
         → IsLayerConfiguration plan layer old.states → IsKeptFor n old.kept
         → IsLayerConfiguration plan layer new.states
     states_are accepted over keeps starts kept =
@@ -144,7 +144,7 @@ abbrev no_value : Reg
 no_value = record { a = None; d = false }
 
 module _ {Kept : Type 0} (layer : Layer Kept) (plan : Plan) (accepted : IsAccepted plan)
-    (over : StandsOver layer (plan_meaning plan)) where
+    (over : LayerFits layer (plan_meaning plan)) where
   -- a layer with as many registers, in which no node tells a value
   abbrev still : Layer ℕ
   still = record {
@@ -191,7 +191,7 @@ module _ {Kept : Type 0} (layer : Layer Kept) (plan : Plan) (accepted : IsAccept
 
 -- so a layer that keeps range over an accepted plan has runs
 has_runs : {Kept : Type 0} (layer : Layer Kept) (plan : Plan) → IsAccepted plan
-    → StandsOver layer (plan_meaning plan) → KeepsRange layer → HasRuns plan layer
+    → LayerFits layer (plan_meaning plan) → KeepsRange layer → HasRuns plan layer
 has_runs layer plan accepted over keeps = record {
   keeps = keeps;
   start = map (begin layer plan accepted over) (range_with_len 0 (plan_nodes plan));

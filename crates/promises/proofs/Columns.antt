@@ -28,9 +28,9 @@ use Rattle.adversary_script.specs.Lies.{AreStates, start_of}
 use Rattle.adversary_script.proofs.LiesInRange.{starts_in_range}
 use Rattle.round_runner.specs.Laws.{IsReadFor}
 use Rattle.round_runner.specs.Played.{lies_at, heard_at, played_at}
-use Rattle.round_runner.proofs.Firsts.{none_inside, none_hit, era_some, end_within}
-use Rattle.round_runner.proofs.Hits.{hit_has, put_has}
-use Rattle.round_runner.proofs.Places.{placed}
+use Rattle.machine_runner.proofs.Firsts.{none_inside, none_hit, era_some, end_within}
+use Rattle.machine_runner.proofs.Hits.{hit_has, put_has}
+use Rattle.machine_runner.proofs.Places.{placed}
 use Rattle.promises.proofs.Heard.{heard_long, heard_is}
 use Rattle.node_stepper.specs.Packets.{whole}
 use Rattle.plan_machine.specs.PlanNodes.{fields_of, heard_of, heard_in, state_after, state_cell}

@@ -4,7 +4,7 @@ use Rattle.std.proofs.Common.{◌++◌, length, Option, Some, None, refl, sym, a
 use Rattle.std.proofs.Common.{arith}
 use Rattle.texts.specs.Causes.{Counted}
 use Rattle.texts.proofs.Causes.{never_counted}
-use Rattle.texts.specs.Growth.{Told, Wrote, plainly}
+use Rattle.texts.specs.Growth.{SinkState, Wrote, plainly}
 use Rattle.texts.proofs.Growth.{wrote_none}
 use Rattle.edge_io.specs.Memory.{memory_told}
 use Rattle.sync_types.specs.declared.status.Status.{Status}
@@ -38,13 +38,13 @@ told as_it_goes s bytes left input h = part_told (comes_to_end as_it_goes s) byt
 -- ---- by the status
 
 -- a sink that was not touched took a text that is empty
-wrote_if : (writes : Bool) (text : List ℕ) (old new : Told) → WritesIf writes text old new
+wrote_if : (writes : Bool) (text : List ℕ) (old new : SinkState) → WritesIf writes text old new
     → Wrote text old new
 wrote_if true text old new h = h
 wrote_if false text old new h = rw (h.none, h.same) (wrote_none old)
 
 module _ (c : Option Command) (input : List ℕ) (left : Option (List ℕ)) (before now : ℕ)
-    (old new : Told) where
+    (old new : SinkState) where
   -- what was answered is the outcome of the input
   pub answered_outcome : (s : Status)
       → Answered (manner c) (defined c) s (Some input) left before now old new
@@ -101,7 +101,7 @@ undisturbed_is_defined c s input old new h =
     whichever c input h.left h.before h.now old new s h.does h.none_read
     (λ h'. h.none_written h'.cut.cause)
 
--- ---- where no fault can be counted
+-- ---- if no fault can be counted
 
 pub plain_is_defined : PlainIsDefined
 plain_is_defined c s input rest does =
@@ -121,7 +121,7 @@ room_is_defined c s input rest sink new does unlisted room =
 
 -- ---- two calls
 
-module _ (c : Option Command) (input : List ℕ) (s : Status) (old new : Told) where
+module _ (c : Option Command) (input : List ℕ) (s : Status) (old new : SinkState) where
   no_want : (c : Option Command) → (s ≡ status.NoMemory → ⊥) → IfCommand c (WantsMemory s old new)
       → ⊥
   no_want None not h = h

@@ -1,7 +1,7 @@
 -- The text of the word `demo` is a plan and a script, for every seed.
-use Rattle.std.proofs.Common.{◌≡◌, ℕ, zero, suc, ◌/◌, ◌%◌, ◌^◌, ◌<◌, ◌≤◌, Bool, true, false, List}
+use Rattle.std.proofs.Common.{◌≡◌, ℕ, zero, suc, ◌/◌, ◌%◌, ◌<◌, ◌≤◌, Bool, true, false, List}
 use Rattle.std.proofs.Common.{[], ◌∷◌, ◌++◌, length, Some, None, Result, Ok, Err, codes, refl, sym}
-use Rattle.std.proofs.Common.{ap, ◌∙◌, subst, length-append, arith}
+use Rattle.std.proofs.Common.{ap, ◌∙◌, subst, arith}
 use Rattle.std.specs.Prelude.{◌==◌, ◌&&◌, if◌then◌else◌, nat_lt, replicate, slice_index}
 use Rattle.std.specs.Prelude.{MatchResult}
 use Rattle.std.specs.List.{concat, list_all}
@@ -76,7 +76,7 @@ key_encoded : (seed : ℕ) → encode_lower (key_of seed) ≡ key_digits seed
 unfolding key_of encode_with
 key_encoded seed = encoded_behind lower_digits (to_be_bytes w64 seed) (replicate 24 0)
 
-pub key_long : (seed : ℕ) → length (key_digits seed) ≡ 64
+key_long : (seed : ℕ) → length (key_digits seed) ≡ 64
 unfolding key_of
 key_long seed = rw (← key_encoded seed) (length-encode_with lower_digits (key_of seed))
 
@@ -131,7 +131,7 @@ chosen_by k =
     else record { first = 3; second = 4; third = 5 }
 
 -- what is so of each of the three choices is so of that of a seed
-pub of_liars : (P : Liars → Type 0)
+of_liars : (P : Liars → Type 0)
     → P (record { first = 0; second = 4; third = 8 })
     → P (record { first = 0; second = 1; third = 2 })
     → P (record { first = 3; second = 4; third = 5 })
@@ -156,7 +156,7 @@ liars_are_spread = record {
 
 -- ---- reading
 
--- the text behind the line of the seed
+-- the text after the line of the seed
 behind_seed : Liars → List ℕ
 behind_seed liars = concat (
     codes "start noise\n"
@@ -212,7 +212,7 @@ module _ (word key : List ℕ) (plain : IsPlain word) (long : length word ≡ 64
   IsRead liars =
       MatchResult (scripted_of (text_with liars word)) (IsDemo key liars) (λ refusal. ⊥)
 
-  -- what is read is as meant, where the script's part is
+  -- what is read is as meant, if the script's part is
   Meant : Liars → Result (Found Script) (At Rule) → Type 0
   Meant liars part =
       MatchResult (with_script demo_plan (alone 6 part)) (IsDemo key liars) (λ refusal. ⊥)
@@ -297,32 +297,3 @@ demo_ends_well seed =
 
 pub demo_is_answered : DemoIsAnswered
 demo_is_answered seed input = demo_ends_well seed
-
--- ---- its length
-
-IsShort : Liars → List ℕ → Type 0
-IsShort liars word = length (text_with liars word) ≤ 2 ^ 20
-
-spread_short : (word : List ℕ) → length word ≡ 64
-    → IsShort (record { first = 0; second = 4; third = 8 }) word
-unfolding IsShort digits
-spread_short word long = simp length-append (omega (arith, long))
-
-together_short : (word : List ℕ) → length word ≡ 64
-    → IsShort (record { first = 0; second = 1; third = 2 }) word
-unfolding IsShort digits
-together_short word long = simp length-append (omega (arith, long))
-
-divided_short : (word : List ℕ) → length word ≡ 64
-    → IsShort (record { first = 3; second = 4; third = 5 }) word
-unfolding IsShort digits
-divided_short word long = simp length-append (omega (arith, long))
-
--- and it is short
-pub demo_is_short : (seed : ℕ) → length (demo_text seed) ≤ 2 ^ 20
-unfolding IsShort
-demo_is_short seed =
-    let word = key_digits seed in
-    let long = key_long seed in
-    of_liars (λ liars. IsShort liars word) (spread_short word long) (together_short word long)
-    (divided_short word long) seed

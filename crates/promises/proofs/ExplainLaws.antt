@@ -78,7 +78,7 @@ module _ (plan : Plan) (script : Script) (read : IsReadFor plan script) where
   abbrev last : ℕ
   last = length script.eras
 
-  -- the last era ends behind the last configuration
+  -- the last era ends after the last configuration
   end_is : end_of_era script last ≡ script.rounds + 1
   end_is = ap (λ (b : Bool). if b then first_of_era script (last + 1) else script.rounds + 1)
       (le-ltb last last (omega arith))

@@ -1,4 +1,4 @@
--- What each node tells and hears in a round of a script is in range, where the configuration is.
+-- What each node tells and hears in a round of a script is in range, if the configuration is.
 use Rattle.std.proofs.Common.{◌≡◌, ℕ, ◌<◌, eqb, not, ◌||◌, List, [], length, get_or, sym}
 use Rattle.std.proofs.Common.{subst, arith}
 use Rattle.std.proofs.lemmas.List.FromFn.{length-map-range_with_len, get_or-map-range_with_len}

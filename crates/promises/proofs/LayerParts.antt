@@ -62,7 +62,7 @@ said_of (r ∷ requests) v t holds = elim (cases_Bool (says v t r)) [
       (said_of requests v t (sym (ap (λ b. b || requests_in requests v t) fails) ∙ holds))
 ]
 
--- it is said by the line behind those
+-- it is said by the line after those
 said_behind : (before after : List Request) (r : Request) (v t : ℕ) → says v t r ≡ true
     → requests_in (before ++ r ∷ after) v t ≡ true
 said_behind [] after r v t holds = or_left (says v t r) (requests_in after v t) holds
@@ -84,9 +84,9 @@ is_said requests v t said =
 pub requests_are_said : (requests : List Request) → RequestsAreSaid requests
 requests_are_said requests v t = (said_of requests v t, is_said requests v t)
 
--- ---- turns
+-- ---- in turn
 
--- the element behind so many
+-- the element after so many
 at_front : (before after : List ℕ) (c : ℕ) → slice_index (before ++ c ∷ after) (length before) ≡ c
 at_front [] after c = refl
 at_front (b ∷ before) after c = at_front before after c

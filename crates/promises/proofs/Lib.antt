@@ -1,3 +1,5 @@
+pub mod MachineLocks
+pub mod Texts
 pub mod Lines
 pub mod LockLaws
 pub mod Heard
@@ -34,6 +36,4 @@ pub mod NodeStatuses
 pub mod NodePromises
 pub mod CallInputs
 pub mod DemoTexts
-pub mod ReadRequests
-pub mod ReadLogs
 pub mod OnlyTexts

@@ -11,7 +11,7 @@ use Rattle.round_runner.specs.Locks.{first_locked, era_locked, IsFirstLocked}
 use Rattle.round_runner.specs.Played.{played_at}
 use Rattle.round_runner.specs.Runners.{Running, IsPlaying}
 use Rattle.round_runner.proofs.FirstLocked.{first_is_locked}
-use Rattle.round_runner.proofs.Firsts.{end_within}
+use Rattle.machine_runner.proofs.Firsts.{end_within}
 use Rattle.round_runner.proofs.LocksKnown.{known_at_end}
 use Rattle.round_runner.proofs.ScenesLock.{known_by_bound}
 use Rattle.run_lines.specs.RunTexts.{lock_of_era}

@@ -31,7 +31,7 @@ module _ (plan : Plan) where
   count : any.ConnectedCallsCount plan_words (machine_of_plan plan)
   count = any_connected.connected_count plan_words headers_of_machines (machine_of_plan plan)
 
-  -- where some node is correct
+  -- if some node is correct
   newer_accepted : (faulty : List ℕ) → SomeIsCorrect plan faulty → (calls : ℕ → Call)
       → NameThePlan plan faulty calls → IsAccepted (in_version 2 plan)
   newer_accepted faulty some calls named =

@@ -25,19 +25,17 @@ use Rattle.consensus_layer.proofs.FitInputs.{inputs_fit}
 use Rattle.firing.specs.declared.requests.Request.{Request}
 use Rattle.firing.specs.FirePart as fire_part
 use Rattle.firing.specs.RequestTexts.{requests_text, HasRounds}
-use Rattle.firing.proofs.FitRequests.{requests_fit}
+use Rattle.firing.proofs.FitRequests.{requests_fit, requests_have_rounds}
 use Rattle.replicated_log.specs.LogSaid.{LogSaid}
 use Rattle.replicated_log.specs.LogPart as log_part
 use Rattle.replicated_log.specs.LogTexts.{log_text}
-use Rattle.replicated_log.proofs.FitLogs.{log_fits}
+use Rattle.replicated_log.proofs.FitLogs.{log_fits, logs_are_short}
 use Rattle.outcomes.specs.Layered.{Layered, layered_with, behind_part, behind_plan, layered_of}
 use Rattle.outcomes.specs.Layered.{slots_shape, slotted_of, agree_shape, agreed_of, fire_shape}
 use Rattle.outcomes.specs.Layered.{firing_of, log_shape, logging_of}
 use Rattle.outcomes.proofs.LayeredRead.{further_sound}
 use Rattle.promises.specs.ScriptInputs.{ScriptInputsAreRead}
 use Rattle.promises.specs.OnlyTexts.{IsReadAgain, OnlyTextsAreRead}
-use Rattle.promises.proofs.ReadRequests.{requests_have_rounds}
-use Rattle.promises.proofs.ReadLogs.{logs_are_short}
 
 -- Of a part that fits its plan when it is read: what holds of each plan, part and script that a
 -- text can say, holds of what is read.

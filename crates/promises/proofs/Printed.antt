@@ -6,7 +6,7 @@ use Rattle.sync_types.specs.declared.answers.Premise.{Premise}
 use Rattle.sync_types.specs.declared.status.Status.{Status}
 use Rattle.sync_types.specs.declared.status.Status.TheVariants as status
 use Rattle.texts.specs.Parts.{At}
-use Rattle.texts.specs.Growth.{Told}
+use Rattle.texts.specs.Growth.{SinkState}
 use Rattle.construction.specs.Plans.{Plan}
 use Rattle.plan_reader.specs.Tables.{table_text}
 use Rattle.plan_reader.specs.PlanTexts.{plan_text}
@@ -62,7 +62,7 @@ refused (refusal.Certificate line) is = cc
 refused (refusal.Table line cause) is = cc
 
 -- an input that is not too long has the outcome of its answer
-short : (beyond : Bool) (answer : Outcome) (old new : Told)
+short : (beyond : Bool) (answer : Outcome) (old new : SinkState)
     → HasOutcome (cond beyond too_long answer) status.Ok old new
     → HasOutcome answer status.Ok old new
 short true answer old new h = let is = h.status in absurd (cc)
@@ -70,7 +70,7 @@ short false answer old new h = h
 
 -- an answer that is the text of what was read, or the refusal that was read
 module _ {X : Type 0} (read : List ℕ → Result X Refusal) (text : X → List ℕ) (Promise : X → Type 0)
-    (input : List ℕ) (old new : Told) where
+    (input : List ℕ) (old new : SinkState) where
   by_reading : (r : Result X Refusal) → read input ≡ r → IfOk r Promise
       → HasOutcome (outcome_of (text_by text r)) status.Ok old new
       → Printed read text Promise input old new
@@ -89,7 +89,7 @@ wants_kept (Ok want) is = is
 wants_kept (Err r) is = tt
 
 -- a verdict that ends well
-check_by : (input : List ℕ) (old new : Told) (answer : Result Verdict ℕ) → Says input answer
+check_by : (input : List ℕ) (old new : SinkState) (answer : Result Verdict ℕ) → Says input answer
     → HasOutcome (checked_outcome (unlimited answer)) status.Ok old new
     → CheckPrinted input old new
 check_by input old new (Ok (verdict.True rows locked)) says h =
@@ -106,7 +106,7 @@ plan_kept law (Err at) accepted = tt
 module _ (stabilise : AcceptedStabilise) (promise : PromiseIsKept) (check : CheckIsExact)
     (records : RecordsAreChecked) (holds : HoldsAreKept) (decisions : DecisionsAreKept)
     (fires : FiresAreKept) (entries : EntriesAreKept) (found : LeastIsFound)
-    (texts : TextsAreKept) (input : List ℕ) (old new : Told) where
+    (texts : TextsAreKept) (input : List ℕ) (old new : SinkState) where
   by_batch : (b : Batch) → HasOutcome (outcome_of (answer_of b input)) status.Ok old new
       → BatchPrinted b input old new
   by_batch batch.Run h = printed scripted_of (λ s. run_text s.plan s.script)

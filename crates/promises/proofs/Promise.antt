@@ -1,4 +1,4 @@
--- Where an input is a plan and a script, the promise is kept.
+-- If an input is a plan and a script, the promise is kept.
 use Rattle.std.proofs.Common.{◌≡◌, ℕ, ◌+◌, ◌≤◌, [], length, Some, Result, Ok, Err, ap, subst}
 use Rattle.std.proofs.Common.{arith}
 use Rattle.std.specs.Prelude.{IfOk}

@@ -1,4 +1,4 @@
--- Where the plan part of an input is accepted, the plan settles.
+-- If the plan part of an input is accepted, the plan settles.
 use Rattle.std.proofs.Common.{Result, Ok, Err, refl}
 use Rattle.std.specs.Prelude.{IfOk}
 use Rattle.texts.specs.Parts.{Found, At}

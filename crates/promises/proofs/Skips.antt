@@ -1,10 +1,12 @@
 -- Skipped lines change nothing of what an input is read as.
 use Rattle.std.proofs.Common.{◌≡◌, ℕ, zero, suc, ◌+◌, ◌≤◌, Bool, true, false, eqb, List, [], ◌∷◌}
-use Rattle.std.proofs.Common.{length, Option, Some, None, Result, Ok, Err, refl, sym, ap, ◌∙◌}
+use Rattle.std.proofs.Common.{length, take, drop, Option, Some, None, Result, Ok, Err, refl, sym}
+use Rattle.std.proofs.Common.{ap, ◌∙◌}
 use Rattle.std.proofs.Common.{append_assoc, arith}
 use Rattle.std.specs.Prelude.{not, if◌then◌else◌}
 use Rattle.std.specs.List.{onto_first, AllByRecursion}
 use Rattle.std.proofs.lemmas.Bool.{and_from}
+use Rattle.std.proofs.lemmas.List.{length-take, take-append-drop}
 use Rattle.texts.specs.Lines.{lines_of, is_one_line}
 use Rattle.texts.specs.Words.{text_of}
 use Rattle.texts.specs.Parts.{Next, Found, At, is_skipped, with_skips, part_from}
@@ -31,6 +33,7 @@ use Rattle.slot_table.specs.SlotPart as slot_part
 use Rattle.consensus_layer.specs.AgreePart as agree_part
 use Rattle.firing.specs.FirePart as fire_part
 use Rattle.replicated_log.specs.LogPart as log_part
+use Rattle.node_words.proofs.SkippedLines.{behind, then_next}
 use Rattle.node_words.proofs.Skips.{header_skips}
 use Rattle.outcomes.specs.declared.refusals.Refusal.{Refusal}
 use Rattle.outcomes.specs.Inputs.{in_plan, in_part, or_refusal, Scripted, with_script}
@@ -39,8 +42,8 @@ use Rattle.outcomes.specs.PlanWords.{plan_words}
 use Rattle.outcomes.specs.Layered.{Layered, slots_shape, agree_shape, fire_shape, log_shape}
 use Rattle.outcomes.specs.Layered as layered
 use Rattle.promises.specs.Skips.{put_in, with_line, moved_in, SkipsAreUnseen, SkippedLinesAreUnseen}
-use Rattle.promises.proofs.SkippedLines.{Moves, IsBlind, blind_as, by_first, unless_more, behind}
-use Rattle.promises.proofs.SkippedLines.{then_next, end_is_blind, part_is_blind}
+use Rattle.promises.proofs.SkippedLines.{Reads, Moves, IsBlind, blind_as, by_first, unless_more}
+use Rattle.promises.proofs.SkippedLines.{end_is_blind, part_is_blind}
 
 -- ---- the lines of a text
 
@@ -81,12 +84,15 @@ lines_with n line input one =
     (put_are_lines n line (lines_of input) one (are_lines input))
 
 -- what is blind from the first line on sees nothing of them
-unseen : {X : Type 0} (read : ℕ → List (List ℕ) → Result X Refusal)
+unseen : {X : Type 0} (read : Reads X)
     → ((line : List ℕ) → is_skipped line ≡ true → length line ≤ 4096 → IsBlind line read)
     → SkipsAreUnseen (λ input. read 1 (lines_of input))
 unseen read blind input n le line skipped short one =
+    let lines : List (List ℕ) = lines_of input in
     ap (read 1) (lines_with n line input one)
-    ∙ (blind line skipped short).among n n 1 (lines_of input) le (omega arith)
+    ∙ ((blind line skipped short).among (take n lines) (drop n lines) n 1
+    (omega (arith, length-take n lines, le))
+    ∙ ap (λ ls. moved_in n (read 1 ls)) (take-append-drop n lines))
 
 -- what reads as another that sees nothing of skipped lines is so
 unseen_as : {X : Type 0} (read other : List ℕ → Result X Refusal)
@@ -95,29 +101,36 @@ unseen_as read other same is input n le line skipped short one =
     same (with_line n line input)
     ∙ (is input n le line skipped short one ∙ ap (moved_in n) (sym (same input)))
 
--- a refusal names its line
-in_plan_moves : Moves in_plan
-in_plan_moves k number rule = refl
+-- ---- a refusal names its line
 
-in_part_moves : (name : Part) → Moves (in_part name)
-in_part_moves name k number rule = refl
+abbrev of_plan : {X : Type 0} → At Premise → Result X Refusal
+of_plan at = Err (in_plan at)
+
+abbrev of_part : {X : Type 0} → Part → At Rule → Result X Refusal
+of_part name at = Err (in_part name at)
+
+plan_moves : {X : Type 0} → Moves (of_plan {X = X})
+plan_moves k number rule = refl
+
+part_moves : {X : Type 0} (name : Part) → Moves (of_part {X = X} name)
+part_moves name k number rule = refl
 
 -- ---- wants
 
 abbrev read_wants : (number : ℕ) → List (List ℕ) → Result Want Refusal
 read_wants =
-    then_next (in_part part.Find) (unless_more (in_part part.Find) rule.Form)
-    find_part.find_step rule.Form find_stage.Unread
+    then_next (of_part part.Find) (unless_more (of_part part.Find) rule.Form)
+    (with_skips find_part.find_step rule.Form) rule.Form find_stage.Unread
 
 wants_by : (first : Option ℕ) (want : Want)
     → or_refusal (in_part part.Find) (find_part.unless_followed first want)
-    ≡ by_first (in_part part.Find) rule.Form want first
+    ≡ by_first (of_part part.Find) rule.Form want first
 wants_by None want = refl
 wants_by (Some number) want = refl
 
 wants_are : (r : Result (Found Want) (At Rule))
     → or_refusal (in_part part.Find) (find_part.alone r)
-    ≡ behind (in_part part.Find) (unless_more (in_part part.Find) rule.Form) 1 r
+    ≡ behind (of_part part.Find) (unless_more (of_part part.Find) rule.Form) 1 r
 wants_are (Err at) = refl
 wants_are (Ok found) = wants_by (first_unskipped (1 + found.taken) found.behind) found.value
 
@@ -127,46 +140,47 @@ wants_unseen =
     (λ input. wants_are (part_from (with_skips find_part.find_step rule.Form) rule.Form
     find_stage.Unread 0 1 (lines_of input)))
     (unseen read_wants (λ line skipped short.
-    part_is_blind line skipped short find_part.find_step rule.Form (in_part part.Find)
-    (in_part_moves part.Find) (unless_more (in_part part.Find) rule.Form)
-    (λ want. end_is_blind line skipped short (in_part part.Find) (in_part_moves part.Find)
+    part_is_blind line skipped short find_part.find_step rule.Form (of_part part.Find)
+    (part_moves part.Find) (unless_more (of_part part.Find) rule.Form)
+    (λ want. end_is_blind line skipped short (of_part part.Find) (part_moves part.Find)
     rule.Form want)
     find_stage.Unread))
 
--- ---- a plan, and what is read behind it
+-- ---- a plan, and what is read after it
 
-module _ {X : Type 0} (next : Plan → (number : ℕ) → List (List ℕ) → Result X Refusal) where
-  abbrev read_plan : (number : ℕ) → List (List ℕ) → Result X Refusal
-  read_plan = then_next in_plan next plan_part.plan_step premise.Form plan_stage.Unread
+module _ {X : Type 0} (next : Plan → Reads X) where
+  abbrev read_plan : Reads X
+  read_plan = then_next of_plan next (with_skips plan_part.plan_step premise.Form) premise.Form
+      plan_stage.Unread
 
   behind_plan_unseen : ((line : List ℕ) → is_skipped line ≡ true → length line ≤ 4096
       → (plan : Plan) → IsBlind line (next plan))
       → SkipsAreUnseen (λ input. read_plan 1 (lines_of input))
   behind_plan_unseen blind =
       unseen read_plan (λ line skipped short.
-      part_is_blind line skipped short plan_part.plan_step premise.Form in_plan in_plan_moves
+      part_is_blind line skipped short plan_part.plan_step premise.Form of_plan plan_moves
       next (blind line skipped short) plan_stage.Unread)
 
 -- alone
 plan_by : (first : Option ℕ) (plan : Plan)
     → or_refusal in_plan (plan_part.unless_followed first plan)
-    ≡ by_first in_plan premise.Form plan first
+    ≡ by_first of_plan premise.Form plan first
 plan_by None plan = refl
 plan_by (Some number) plan = refl
 
 plan_is : (r : Result (Found Plan) (At Premise))
     → or_refusal in_plan (plan_part.alone r)
-    ≡ behind in_plan (unless_more in_plan premise.Form) 1 r
+    ≡ behind of_plan (unless_more of_plan premise.Form) 1 r
 plan_is (Err at) = refl
 plan_is (Ok found) = plan_by (first_unskipped (1 + found.taken) found.behind) found.value
 
 plans_unseen : SkipsAreUnseen inputs.plan_alone
 plans_unseen =
     unseen_as inputs.plan_alone
-    (λ input. read_plan (unless_more in_plan premise.Form) 1 (lines_of input))
+    (λ input. read_plan (unless_more of_plan premise.Form) 1 (lines_of input))
     (λ input. plan_is (plan_part.plan_of input))
-    (behind_plan_unseen (unless_more in_plan premise.Form) (λ line skipped short plan.
-    end_is_blind line skipped short in_plan in_plan_moves premise.Form plan))
+    (behind_plan_unseen (unless_more of_plan premise.Form) (λ line skipped short plan.
+    end_is_blind line skipped short of_plan plan_moves premise.Form plan))
 
 -- ---- a script, to the end of the input
 
@@ -175,17 +189,17 @@ module _ {X : Type 0} (plan : Plan) (shape : Shape) (wrap : Script → X) where
   wrapped (Err at) = Err (in_part part.Script at)
   wrapped (Ok script) = Ok (wrap script)
 
-  abbrev script_end : Script → (number : ℕ) → List (List ℕ) → Result X Refusal
-  script_end script = unless_more (in_part part.Script) rule.Form (wrap script)
+  abbrev script_end : Script → Reads X
+  script_end script = unless_more (of_part part.Script) rule.Form (wrap script)
 
   script_by : (first : Option ℕ) (script : Script)
       → wrapped (script_part.unless_followed first script)
-      ≡ by_first (in_part part.Script) rule.Form (wrap script) first
+      ≡ by_first (of_part part.Script) rule.Form (wrap script) first
   script_by None script = refl
   script_by (Some number) script = refl
 
   script_is : (number : ℕ) (r : Result (Found Script) (At Rule))
-      → wrapped (script_part.alone number r) ≡ behind (in_part part.Script) script_end number r
+      → wrapped (script_part.alone number r) ≡ behind (of_part part.Script) script_end number r
   script_is number (Err at) = refl
   script_is number (Ok found) =
       script_by (first_unskipped (number + found.taken) found.behind) found.value
@@ -193,7 +207,7 @@ module _ {X : Type 0} (plan : Plan) (shape : Shape) (wrap : Script → X) where
   abbrev none_read : script_part.ScriptSoFar
   none_read = script_part.nothing_read (plan_nodes plan) (plan_faults plan) shape
 
-  abbrev read_script : (number : ℕ) → List (List ℕ) → Result X Refusal
+  abbrev read_script : Reads X
   read_script number lines = wrapped (script_part.script_of plan shape number lines)
 
   script_is_blind : (line : List ℕ) → is_skipped line ≡ true → length line ≤ 4096
@@ -201,16 +215,17 @@ module _ {X : Type 0} (plan : Plan) (shape : Shape) (wrap : Script → X) where
   unfolding script_for
   script_is_blind line skipped short =
       blind_as line read_script
-      (then_next (in_part part.Script) script_end script_part.script_step rule.Form none_read)
+      (then_next (of_part part.Script) script_end (with_skips script_part.script_step rule.Form)
+      rule.Form none_read)
       (λ number lines. script_is number (script_part.part_of plan shape number lines))
-      (part_is_blind line skipped short script_part.script_step rule.Form (in_part part.Script)
-      (in_part_moves part.Script) script_end
-      (λ script. end_is_blind line skipped short (in_part part.Script)
-      (in_part_moves part.Script) rule.Form (wrap script))
+      (part_is_blind line skipped short script_part.script_step rule.Form (of_part part.Script)
+      (part_moves part.Script) script_end
+      (λ script. end_is_blind line skipped short (of_part part.Script)
+      (part_moves part.Script) rule.Form (wrap script))
       none_read)
 
--- behind its plan alone
-abbrev script_behind : Plan → (number : ℕ) → List (List ℕ) → Result Scripted Refusal
+-- after its plan alone
+abbrev script_behind : Plan → Reads Scripted
 script_behind plan =
     read_script plan (shape_of plan) (λ script. record { plan = plan; script = script })
 
@@ -221,7 +236,7 @@ scripted_by plan (Err at) = refl
 scripted_by plan (Ok script) = refl
 
 scripted_is : (r : Result (Found Plan) (At Premise))
-    → inputs.behind_plan r ≡ behind in_plan script_behind 1 r
+    → inputs.behind_plan r ≡ behind of_plan script_behind 1 r
 scripted_is (Err at) = refl
 scripted_is (Ok found) =
     scripted_by found.value (script_part.script_of found.value (shape_of found.value)
@@ -246,13 +261,13 @@ module _ {S Said : Type 0} (name : Part) (step : S → List ℕ → Next S Said 
   abbrev with_said : Plan → Said → Script → Layered Said
   with_said plan said script = record { plan = plan; said = said; script = script }
 
-  abbrev script_after_part : Plan → Said → (number : ℕ) → List (List ℕ)
-      → Result (Layered Said) Refusal
+  abbrev script_after_part : Plan → Said → Reads (Layered Said)
   script_after_part plan said = read_script plan (shape_for plan said) (with_said plan said)
 
-  abbrev part_for : Plan → (number : ℕ) → List (List ℕ) → Result (Layered Said) Refusal
+  abbrev part_for : Plan → Reads (Layered Said)
   part_for plan =
-      then_next (in_part name) (script_after_part plan) step rule.Form (begin plan)
+      then_next (of_part name) (script_after_part plan) (with_skips step rule.Form) rule.Form
+      (begin plan)
 
   said_by : (plan : Plan) (said : Said) (r : Result Script (At Rule))
       → layered.layered_with name part_of shape_for plan said r
@@ -262,14 +277,14 @@ module _ {S Said : Type 0} (name : Part) (step : S → List ℕ → Next S Said 
 
   part_is : (plan : Plan) (number : ℕ) (r : Result (Found Said) (At Rule))
       → layered.behind_part name part_of shape_for plan number r
-      ≡ behind (in_part name) (script_after_part plan) number r
+      ≡ behind (of_part name) (script_after_part plan) number r
   part_is plan number (Err at) = refl
   part_is plan number (Ok found) =
       said_by plan found.value (script_part.script_of plan (shape_for plan found.value)
       (number + found.taken) found.behind)
 
   layered_is : (r : Result (Found Plan) (At Premise))
-      → layered.behind_plan name part_of shape_for r ≡ behind in_plan part_for 1 r
+      → layered.behind_plan name part_of shape_for r ≡ behind of_plan part_for 1 r
   layered_is (Err at) = refl
   layered_is (Ok found) =
       part_is found.value (1 + found.taken)
@@ -281,7 +296,7 @@ module _ {S Said : Type 0} (name : Part) (step : S → List ℕ → Next S Said 
       (λ input. read_plan part_for 1 (lines_of input))
       (λ input. layered_is (plan_part.plan_of input))
       (behind_plan_unseen part_for (λ line skipped short plan.
-      part_is_blind line skipped short step rule.Form (in_part name) (in_part_moves name)
+      part_is_blind line skipped short step rule.Form (of_part name) (part_moves name)
       (script_after_part plan)
       (λ said. script_is_blind plan (shape_for plan said) (with_said plan said) line skipped
       short)

@@ -26,10 +26,10 @@ use Rattle.layer_laws.specs.LayerRuns.{IsLayerTable}
 use Rattle.layer_laws.proofs.NodesSteps.{each_below}
 use Rattle.round_runner.specs.Fits.{Fits}
 use Rattle.round_runner.specs.Played.{lies_at, heard_at}
-use Rattle.round_runner.specs.Scenes.{begun_kept, layer_step, new_state, state_behind, scene_at}
+use Rattle.layer_laws.specs.PlayedScenes.{begun_kept, layer_step, new_state, state_behind, scene_at}
 use Rattle.round_runner.proofs.Fitting.{front_is, layer_fits}
-use Rattle.round_runner.proofs.Hits.{put_has, hit_has}
-use Rattle.round_runner.proofs.Places.{placed}
+use Rattle.machine_runner.proofs.Hits.{put_has, hit_has}
+use Rattle.machine_runner.proofs.Places.{placed}
 use Rattle.round_runner.proofs.ScenesRun.{size_at}
 use Rattle.promises.specs.LayeredEras.{IsReadFor}
 use Rattle.promises.proofs.Heard.{lie_is, heard_long, heard_is}
@@ -48,7 +48,7 @@ module _ {Kept : Type 0} (plan : Plan) (script : Script) (layer : Layer Kept)
   further : IsShape (shape_with plan layer.values layer.extra)
   further = subst IsShape is.right.shape is.sound
 
-  -- a state of a node's fields is one of the plan's node with the layer's registers behind
+  -- a state of a node's fields is one of the plan's node with the layer's registers after its own
   pub layer_state : (v : ℕ) → v < plan_nodes plan → (s : State)
       → InRange (fields_at script.shape v) s → IsLayerState plan layer v s
   layer_state v lt s range = record {

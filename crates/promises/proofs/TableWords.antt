@@ -35,7 +35,7 @@ base_is base = simp (append_assoc, append-nil)
 whole_is : (plan : Plan) → plan_line plan ≡ ended (joined (whole_words plan))
 whole_is plan = simp (append_assoc, append-nil)
 
--- the words of a level's line, where its spares stand in it or not
+-- the words of a level's line, by whether its spares stand in it
 level_words_by : (first : Bool) (index : ℕ) (nums : LevelNums) → List (List ℕ)
 level_words_by first index nums =
     codes "level" ∷ decimal index ∷ codes "blocks" ∷ decimal nums.blocks

@@ -38,7 +38,7 @@ use Rattle.promises.specs.WrittenLines.{entry_words, RowsAreWritten, HoldsAreWri
 use Rattle.promises.specs.WrittenLines.{DecisionsAreWritten, FiresAreWritten}
 use Rattle.promises.specs.WrittenLines.{EntriesAreWritten, TextsAreWritten}
 
--- ---- words behind spaces
+-- ---- words after spaces
 
 abbrev behind_space : List ℕ → List ℕ
 behind_space word = 32 ∷ word
@@ -48,7 +48,7 @@ spaced : (word : List ℕ) (words : List (List ℕ))
 spaced word [] = sym (append-nil word)
 spaced word (next ∷ words) = ap (λ rest. word ++ 32 ∷ rest) (spaced next words)
 
--- a line of a name, a number, and words behind spaces
+-- a line of a name, a number, and words after spaces
 line_is : (name number behind : List ℕ) (words : List (List ℕ))
     → behind ≡ flat_map behind_space words
     → ((name ++ 32 ∷ []) ++ number) ++ (behind ++ 10 ∷ [])
@@ -221,7 +221,7 @@ module _ (plan : Plan) (script : Script) where
       (nodes_are end (fire_word (fire_scene plan script requests end)) own
       (λ v. mark_is (fired v)))
 
-  -- a line of the log has its owner behind the number
+  -- a line of the log has its owner after the number
   entry_is : (said : LogSaid) (t : ℕ)
       → entry_line plan script said t ≡ ended (joined (entry_words plan script said t))
   entry_is said t =

@@ -64,7 +64,7 @@ ConnectedCallsCount = (plan : Plan) (faulty : List ℕ) → IsBorne plan faulty
     → CallsConnect plan faulty calls begins rounds
     → NodesKeepPromise plan faulty calls begins rounds
 
--- From any locked configuration on, calls stay locked and count where cells are lost, as long as
+-- From any locked configuration on, calls stay locked and count even if cells are lost, as long as
 -- each correct node is given in each round the cells of N - F correct nodes, its own among them.
 abbrev pub HeardCallsStayLocked : Type 0
 HeardCallsStayLocked = (plan : Plan) (faulty : List ℕ) → IsBorne plan faulty

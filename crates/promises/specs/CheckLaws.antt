@@ -14,8 +14,8 @@ use Rattle.outcomes.specs.declared.commands.Command.TheVariants as command
 use Rattle.outcomes.specs.CheckAnswers.{verdict_outcome, checked_outcome}
 use Rattle.outcomes.specs.Commands.{defined}
 
--- Each stretch of rounds behind which no era begins is a run of the plan, with the faulty nodes
--- that the stretch begins with.
+-- Each stretch of rounds, after none of which an era begins, is a run of the plan, with the faulty
+-- nodes that the stretch begins with.
 abbrev pub StretchesRun : Certificate → Type 0
 StretchesRun c = (before stretch after : List Turn)
     → c.turns ≡ before ++ (stretch ++ after) → AreQuiet stretch

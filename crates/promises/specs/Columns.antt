@@ -1,4 +1,4 @@
--- The columns of an era: what each node is told in its rounds, by packets, and its states.
+-- The columns of an era: what each node is given in its rounds, by packets, and its states.
 use Rattle.std.specs.Prelude.{◌≡◌, ℕ, ◌-◌, ◌<◌, ◌≤◌, List, length, map}
 use Rattle.std.specs.List.{flat_map, range_with_len}
 use Rattle.sync_types.specs.States.{State}

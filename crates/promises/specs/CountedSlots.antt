@@ -1,4 +1,4 @@
--- Which slots count: those of which a line is written, where they begin in a configuration that is
+-- Which slots count: those of which a line is written, if they begin in a configuration that is
 -- shown, on a plan's counter.
 use Rattle.std.specs.Prelude.{ℕ, List}
 use Rattle.sync_types.specs.States.{State}
@@ -11,11 +11,7 @@ use Rattle.run_lines.specs.PlayedTexts.{configuration_in}
 use Rattle.layer_lines.specs.CountedSlots as any
 use Rattle.promises.specs.LayeredEras.{IsReadFor}
 
--- a slot of q rounds that begins in configuration t counts
-abbrev pub SlotCounts : Plan → Script → (config_at : ℕ → List State) → (q t : ℕ) → Type 0
-SlotCounts plan = any.SlotCounts (plan_meaning plan)
-
--- just these have a line
+-- just the slots of q rounds that count have a line
 abbrev pub SlotsAreExact : Plan → Script → (config_at : ℕ → List State) → (q : ℕ) → Type 0
 SlotsAreExact plan = any.SlotsAreExact (plan_meaning plan)
 

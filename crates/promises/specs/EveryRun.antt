@@ -8,8 +8,8 @@ use Rattle.replicated_log.specs.ChangingCommands.{ChangingCommandsPutOne, Changi
 use Rattle.replicated_log.specs.PutEntries.{EverySlotPutsOne, LogsAreOne}
 
 -- From the bound on at most one correct node holds; each slot of consensus ends with one decision,
--- also where inputs change from round to round, of firing with all firing or none, of a log with
--- one entry in all logs, and these grow as one, also where commands change from round to round.
+-- also when inputs change from round to round, of firing with all firing or none, of a log with one
+-- entry in all logs, and these grow as one, also when commands change from round to round.
 pub record EveryRunKeeps : Type 0 where
   pub holds : AtMostOneHolds
   pub decides : EveryRunDecides

@@ -32,9 +32,9 @@ explanation_words (Some e) =
     ∷ (codes "phase" ∷ decimal e.phase ∷ codes "king" ∷ decimal e.king ∷ []) ∷ []
 
 -- Of a plan with levels lines say the first explanation why the last era locks, or that there is
--- none, exactly where there is none; the text of `explain` is these, between the bound and the
--- first locked configurations. What is explained locks when its phase has ended. Where the era goes
--- on to the bound, which is counted from its first configuration, there is one within it.
+-- none, exactly if there is none; the text of `explain` is these, between the bound and the first
+-- locked configurations. What is explained locks when its phase has ended. If the era goes on to
+-- the bound, which is counted from its first configuration, there is one within it.
 pub record WhyIsTrue (plan : Plan) (script : Script) : Type 0 where
   pub said : Option Explanation
   pub written : explain_text plan script

@@ -13,9 +13,9 @@ use Rattle.outcomes.specs.Inputs.{wants_of}
 use Rattle.outcomes.specs.Answers.{answer_of}
 
 -- The answer is the text of a plan, or of none, and of pairs. The plan is the least accepted one
--- that meets the wants, none exactly where no plan does; the pairs have their least costs. Every
+-- that meets the wants, none exactly if no plan does; the pairs have their least costs. Every
 -- accepted plan of version 1 with just so many faults and at most so many nodes, whatever it counts
--- by, settles in no less than the plan that is answered, and where none is, there is none.
+-- by, settles in no less than the plan that is answered, and if none is, there is none.
 pub record IsFound (answer : Result (List ℕ) Refusal) (want : Want) : Type 0 where
   pub plan : Option Plan
   pub pots : List Pot
@@ -25,6 +25,6 @@ pub record IsFound (answer : Result (List ℕ) Refusal) (want : Want) : Type 0 w
       → plan_faults other ≡ want.faults → plan_nodes other ≤ want.most
       → IsBoundOf (bound_in plan) (plan_bound other)
 
--- where the wants of an input are read, the least plan is answered
+-- if the wants of an input are read, the least plan is answered
 abbrev pub LeastIsFound : Type 0
 LeastIsFound = (input : List ℕ) → IfOk (wants_of input) (IsFound (answer_of batch.Find input))

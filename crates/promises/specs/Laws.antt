@@ -22,7 +22,7 @@ use Rattle.promises.specs.ExplainLaws.{WhyIsTrue, BaseIsSaid}
 use Rattle.promises.specs.MachineVersions.{VersionsAreOneMachine}
 
 -- All that is known of an accepted plan, in each of its runs and with each faulty set that it
--- bears.
+-- tolerates.
 pub record IsSelfStabilising (plan : Plan) : Type 0 where
   pub accepted : IsAccepted plan
   -- from the bound on all correct nodes show one number, which grows by one modulo C
@@ -31,7 +31,7 @@ pub record IsSelfStabilising (plan : Plan) : Type 0 where
   -- to the states of faulty nodes, and its states are in range
   pub next : (faulty : List ℕ) (old : List State) (lies : List (List State))
       → IsConfiguration plan old → IsTable plan lies → HasOneNext plan faulty old lies
-  -- where a run reaches the bound, the configuration there is locked
+  -- if a run reaches the bound, the configuration there is locked
   pub locks : (faulty : List ℕ) (run : List (List State)) → IsBorne plan faulty
       → Run plan faulty run → plan_bound plan < length run
       → IsLocked plan faulty (configuration run (plan_bound plan))
@@ -46,7 +46,7 @@ pub record IsSelfStabilising (plan : Plan) : Type 0 where
 abbrev pub AcceptedStabilise : Type 0
 AcceptedStabilise = (plan : Plan) → IsAccepted plan → IsSelfStabilising plan
 
--- where the plan part of an input is accepted the plan settles
+-- if the plan part of an input is accepted, the plan settles
 abbrev pub AcceptedPlansSettle : Type 0
 AcceptedPlansSettle = (input : List ℕ)
     → IfOk (plan_of input) (λ found. IsSelfStabilising found.value)
@@ -63,7 +63,7 @@ pub record RowsCountFrom (plan : Plan) (script : Script) (j from : ℕ) : Type 0
 
 -- What is played of era j is a run of the plan, with few faulty nodes. Its rows count from the
 -- bound on, which is counted from its first configuration. The W of its line `locked W` is its
--- first locked configuration, at the bound or before where the era reaches the bound. From W to the
+-- first locked configuration, at the bound or before if the era reaches the bound. From W to the
 -- era's end each configuration is locked, and the rows count.
 pub record EraKeepsPromise (plan : Plan) (script : Script) (j : ℕ) : Type 0 where
   pub borne : IsBorne plan (faulty_of_era script j)
@@ -90,7 +90,7 @@ pub record KeepsPromise (plan : Plan) (script : Script) : Type 0 where
   pub why : 1 ≤ plan_depth plan → WhyIsTrue plan script
   pub base : plan_depth plan ≡ 0 → BaseIsSaid plan script
 
--- where an input is a plan and a script, the promise is kept
+-- if an input is a plan and a script, the promise is kept
 abbrev pub PromiseIsKept : Type 0
 PromiseIsKept = (input : List ℕ)
     → IfOk (scripted_of input) (λ scripted. KeepsPromise scripted.plan scripted.script)

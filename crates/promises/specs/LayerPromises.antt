@@ -30,8 +30,8 @@ use Rattle.outcomes.specs.Layered.{slotted_of, agreed_of, firing_of, logging_of}
 use Rattle.promises.specs.LayerParts.{GivesOutputs, RequestsAreSaid, TakesTurns}
 
 -- What is played is the script's, and what is written are its lines. A node's word in a line is 1
--- exactly where the table gives it the output that it shows, which it does from the first output of
--- a line to the last; from the bound on, in each era, at most one word of a line is.
+-- exactly if the table gives it the output that it shows, which it does from the first output of a
+-- line to the last; from the bound on, in each era, at most one word of a line is.
 pub record KeepsHolds (plan : Plan) (script : Script) (table : List SlotLine) : Type 0 where
   pub played : PlaysPlain plan script
   pub written : HoldsAreWritten plan script table
@@ -48,8 +48,8 @@ abbrev pub HoldsAreKept : Type 0
 HoldsAreKept = (input : List ℕ)
     → IfOk (slotted_of input) (λ read. KeepsHolds read.plan read.script read.said)
 
--- What is played is the script's, where each decision is 0 at first. There is a line of each slot
--- that counts and begins in a configuration that is shown, and it has one decision.
+-- What is played is the script's, with each decision 0 at first. There is a line of each slot that
+-- counts and begins in a configuration that is shown, and it has one decision.
 pub record KeepsDecisions (plan : Plan) (script : Script) (said : AgreeSaid) : Type 0 where
   pub played : PlaysScript plan script (agree_layer plan said.values said.inputs)
       (replicate (plan_nodes plan) 0)
@@ -65,9 +65,9 @@ abbrev pub DecisionsAreKept : Type 0
 DecisionsAreKept = (input : List ℕ)
     → IfOk (agreed_of input) (λ read. KeepsDecisions read.plan read.script read.said)
 
--- What is played is the script's, where none fires at first. There is a line of each slot that
--- counts and begins in a configuration that is shown, and in it all fire, or none does. A node
--- requests in the rounds of which a line says so.
+-- What is played is the script's, and none fires at first. There is a line of each slot that counts
+-- and begins in a configuration that is shown, and in it all fire, or none does. A node requests in
+-- the rounds of which a line says so.
 pub record KeepsFires (plan : Plan) (script : Script) (requests : List Request) : Type 0 where
   pub played : PlaysScript plan script (fire_layer plan requests)
       (replicate (plan_nodes plan) unfired)
@@ -84,9 +84,9 @@ abbrev pub FiresAreKept : Type 0
 FiresAreKept = (input : List ℕ)
     → IfOk (firing_of input) (λ read. KeepsFires read.plan read.script read.said)
 
--- What is played is the script's, where all logs are empty at first. There is a line of each slot
--- that counts and begins in a configuration that is shown, and it has one value, which its owner
--- commands where it is correct.
+-- What is played is the script's, with all logs empty at first. There is a line of each slot that
+-- counts and begins in a configuration that is shown, and it has one value, which its owner
+-- commands if it is correct.
 pub record KeepsEntries (plan : Plan) (script : Script) (said : LogSaid) : Type 0 where
   pub played : PlaysScript plan script (log_layer plan said) (replicate (plan_nodes plan) [])
   pub written : EntriesAreWritten plan script said

@@ -17,7 +17,7 @@ use Rattle.layer_lines.specs.PlayedEras as eras
 use Rattle.layer_lines.specs.PlayedScripts as any
 use Rattle.promises.specs.SaidLines.{SaysLines}
 
--- a script that was read for an accepted plan, with the layer's registers behind those of the plan
+-- a script that was read for an accepted plan, with the layer's registers after those of the plan
 pub record IsReadFor {Kept : Type 0} (plan : Plan) (layer : Layer Kept) (script : Script)
     : Type 0 where
   pub accepted : IsAccepted plan
@@ -27,7 +27,7 @@ pub record IsReadFor {Kept : Type 0} (plan : Plan) (layer : Layer Kept) (script 
 
 module _ {Kept : Type 0} (plan : Plan) (script : Script) (layer : Layer Kept)
     (began : List Kept) where
-  -- scene t of what is played, where the nodes began with these things kept
+  -- scene t of what is played, if the nodes began with these things kept
   abbrev pub played_scene : (t : ℕ) → Scene Kept
   played_scene t = any.played_scene (plan_meaning plan) script layer began t
 

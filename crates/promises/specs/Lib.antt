@@ -1,3 +1,4 @@
+pub mod MachineTexts
 pub mod Promises
 pub mod Locks
 pub mod LayeredEras

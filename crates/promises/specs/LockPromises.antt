@@ -7,9 +7,9 @@ use Rattle.run_lines.specs.EntryTexts.{log_scene}
 use Rattle.promises.specs.Locks.{LocksAreFirst}
 use Rattle.outcomes.specs.Layered.{slotted_of, agreed_of, firing_of, logging_of}
 
--- Where an input is a plan, such a part and a script, the W of the line of each era is the era's
--- first locked configuration, at the bound or before where the era reaches the bound. States have
--- the layer's registers behind those of the plan.
+-- If an input is a plan, such a part and a script, the W of the line of each era is the era's first
+-- locked configuration, at the bound or before if the era reaches the bound. States have the
+-- layer's registers after those of the plan.
 pub record LocksAreKept : Type 0 where
   pub slots : (input : List ℕ) → IfOk (slotted_of input)
       (λ read. LocksAreFirst read.plan read.script (played_at read.plan read.script))

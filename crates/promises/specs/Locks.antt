@@ -13,9 +13,8 @@ use Rattle.run_lines.specs.RunTexts.{lock_of_era}
 use Rattle.run_lines.specs.PlayedTexts.{configuration_in}
 use Rattle.promises.specs.LayeredEras.{IsReadFor}
 
--- The W of the line of era j is the era's first locked configuration, and there is none where it
--- has none. Where the era reaches the bound, counted from its first configuration, it is there or
--- before.
+-- The W of the line of era j is the era's first locked configuration, and there is none if it has
+-- none. If the era reaches the bound, counted from its first configuration, it is there or before.
 pub record EraLocks (plan : Plan) (script : Script) (config_at : ℕ → List State) (j : ℕ)
     : Type 0 where
   pub first : IsFirstLocked plan script config_at j script.rounds
@@ -33,7 +32,7 @@ abbrev pub PlainErasLock : Type 0
 PlainErasLock = (plan : Plan) (script : Script) → bare.IsReadFor plan script
     → LocksAreFirst plan script (played_at plan script)
 
--- of what is played with a layer, where the nodes began with these things kept
+-- of what is played with a layer, if the nodes began with these things kept
 abbrev pub LayeredErasLock : {Kept : Type 0} → Layer Kept → Type 0
 LayeredErasLock layer = (plan : Plan) (script : Script) → IsReadFor plan layer script
     → (began : List _) → LocksAreFirst plan script (configuration_in plan script layer began)

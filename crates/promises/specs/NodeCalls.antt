@@ -1,7 +1,7 @@
 -- Calls of `node`, by the bytes that each read: as those of a node of any construction, of plans.
 use Rattle.std.specs.Prelude.{◌≡◌, ⊤, ℕ, List, Option, Some, Result, Ok}
 use Rattle.std.specs.Io.KnownBytes.{Consumes}
-use Rattle.texts.specs.Growth.{Told, Wrote}
+use Rattle.texts.specs.Growth.{SinkState, Wrote}
 use Rattle.sync_types.specs.declared.status.Status.{Status}
 use Rattle.sync_types.specs.declared.status.Status.TheVariants as status
 use Rattle.construction.specs.Plans.{Plan}
@@ -18,13 +18,9 @@ use Rattle.outcomes.specs.Conduct.{Reads, Does}
 abbrev pub header_of : Call → Result Header (Option HeaderRefusal)
 header_of = any.header_of plan_words
 
--- the whole packets behind it
+-- the whole packets after it
 abbrev pub packets_in : Call → List (List (List ℕ))
 packets_in = any.packets_in plan_words
-
--- the cell of node u in packet t
-abbrev pub cell_heard : Call → (t u : ℕ) → List ℕ
-cell_heard = any.cell_heard plan_words
 
 -- what it writes
 abbrev pub text_of : Call → List ℕ
@@ -53,7 +49,7 @@ HasRead s left left' (whole input) = Reads as_it_goes s left left' input
 HasRead s left left' (failed seen) = (s ≡ status.ReadFault) × Consumes left left' seen
 
 -- one of these calls was made, and its text was written
-pub record IsCall (s : Status) (left left' : Option (List ℕ)) (old new : Told) : Type 0 where
+pub record IsCall (s : Status) (left left' : Option (List ℕ)) (old new : SinkState) : Type 0 where
   pub call : Call
   pub read : HasRead s left left' call
   pub wrote : Wrote (text_of call) old new
@@ -61,5 +57,5 @@ pub record IsCall (s : Status) (left left' : Option (List ℕ)) (old new : Told)
 -- what `node` does with such a status is such a call
 abbrev pub CallsWriteTexts : Type 0
 CallsWriteTexts = (s : Status) → HasWrittenAll s → (left left' : Option (List ℕ)) (before now : ℕ)
-    (old new : Told) → Does (Some command.Node) s left left' before now old new
+    (old new : SinkState) → Does (Some command.Node) s left left' before now old new
     → IsCall s left left' old new

@@ -13,7 +13,7 @@ use Rattle.promises.specs.NodeStatuses.{StatusesAreMeant}
 use Rattle.promises.specs.Processes.{CallsAreProcessesFrom}
 
 -- What `node` does is a call, whose text was written, and it ends with the status that is meant;
--- connected calls count, and stay locked where cells are lost, whichever N - F correct ones each
+-- connected calls count, and stay locked even if cells are lost, whichever N - F correct ones each
 -- hears; a process that is started anew comes to count with the others; a call is a process from
 -- the state on that its header states; the plan that its header names is accepted, of an accepted
 -- plan some node is correct, and there are inputs that meet each premise but that of locks.

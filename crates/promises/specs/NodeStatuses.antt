@@ -18,8 +18,8 @@ abbrev pub header_refusal : HeaderRefusal Premise → Refusal
 header_refusal (header.Plan line premise) = refusal.Plan line premise
 header_refusal (header.Node line rule) = refusal.Part part.Node line rule
 
--- At the end of its input, behind so many packets, it is Ok; each other end has a status of its
--- own name, with the same numbers. The status and the line of a refused header are those of one
+-- At the end of its input, after so many packets, it is Ok; each other end has a status of its own
+-- name, with the same numbers. The status and the line of a refused header are those of one
 -- refusal.
 pub record StatusesAreMeant : Type 0 where
   pub ok : (count : ℕ) → node_status (Ok count) ≡ status.Ok

@@ -43,8 +43,8 @@ pub record IsTableOf (text : List ℕ) (plan : Plan) : Type 0 where
   pub accepted : IsAccepted plan
   pub is : text ≡ table_text plan
 
--- Where an input is a plan, `plan` answers its table and `upgrade` its text in version 2. Where
--- `table` answers that an input is the table of a plan, it is.
+-- If an input is a plan, `plan` answers its table and `upgrade` its text in version 2. If `table`
+-- answers that an input is the table of a plan, it is.
 pub record TextsAreKept : Type 0 where
   pub plans : (input : List ℕ)
       → IfOk (plan_alone input)
@@ -53,10 +53,10 @@ pub record TextsAreKept : Type 0 where
 
 -- Each of these values has a text that is read as it. An accepted plan has one in its own version
 -- and in each later one, and a table; wants, slot tables, inputs to agree on, requests to fire,
--- logs and headers of nodes have one. All but those of tables and of wants are read so at the front
--- of any text, too. A script has one behind the text of its plan, and behind that of a part; what
--- `demo` makes of a seed is one. Skipped lines may stand anywhere. What is within the limit is
--- answered. Worked values say how each text and each refusal is spelled.
+-- logs and headers of nodes have one. All but those of tables and of wants are read so at the
+-- beginning of any text, too. A script has one after the text of its plan, and after that of a
+-- part; what `demo` makes of a seed is one. Skipped lines may stand anywhere. What is within the
+-- limit is answered. Worked values say how each text and each refusal is spelled.
 pub record TextsAreRead : Type 0 where
   pub plans : (plan : Plan) (version : ℕ) → IsAccepted plan → plan.version ≤ version → version ≤ 2
       → plan_alone (plan_text version plan) ≡ Ok (in_version version plan)

@@ -4,7 +4,7 @@ use Rattle.std.specs.Prelude.{◌≡◌, ℕ, ◌≤◌, ◌^◌, List, length, 
 use Rattle.std.specs.Prelude.{Ok, codes}
 use Rattle.sync_types.specs.declared.status.Status.{Status}
 use Rattle.sync_types.specs.declared.status.Status.TheVariants as status
-use Rattle.texts.specs.Growth.{Told, Wrote}
+use Rattle.texts.specs.Growth.{SinkState, Wrote}
 use Rattle.construction.specs.Plans.{Plan}
 use Rattle.adversary_script.specs.Scripts.{Script}
 use Rattle.plan_finder.specs.declared.wants.Want.{Want}
@@ -38,7 +38,7 @@ use Rattle.promises.specs.LayerPromises.{KeepsHolds, KeepsDecisions, KeepsFires,
 
 -- The input is read as a value, the sink took the text of this value, and a promise is kept of it.
 pub record Printed {X : Type 0} (read : List ℕ → Result X Refusal) (text : X → List ℕ)
-    (Promise : X → Type 0) (input : List ℕ) (old new : Told) : Type 0 where
+    (Promise : X → Type 0) (input : List ℕ) (old new : SinkState) : Type 0 where
   pub value : X
   pub is : read input ≡ Ok value
   pub wrote : Wrote (text value) old new
@@ -46,14 +46,14 @@ pub record Printed {X : Type 0} (read : List ℕ → Result X Refusal) (text : X
 
 -- of a plan and a script
 abbrev pub ScriptPrinted : (text : Plan → Script → List ℕ) (Promise : Plan → Script → Type 0)
-    → (input : List ℕ) (old new : Told) → Type 0
+    → (input : List ℕ) (old new : SinkState) → Type 0
 ScriptPrinted text Promise =
     Printed scripted_of (λ s. text s.plan s.script) (λ s. Promise s.plan s.script)
 
 -- of a plan, what is said of a layer, and a script
 abbrev pub LayerPrinted : {Said : Type 0} (read : List ℕ → Result (Layered Said) Refusal)
     → (text : Plan → Script → Said → List ℕ) (Promise : Plan → Script → Said → Type 0)
-    → (input : List ℕ) (old new : Told) → Type 0
+    → (input : List ℕ) (old new : SinkState) → Type 0
 LayerPrinted read text Promise =
     Printed read (λ s. text s.plan s.script s.said) (λ s. Promise s.plan s.script s.said)
 
@@ -62,14 +62,14 @@ abbrev pub IsFoundFor : Want → Type 0
 IsFoundFor want = IsFound (Ok (text_for_want want)) want
 
 -- of a certificate, that it is true
-pub record CheckPrinted (input : List ℕ) (old new : Told) : Type 0 where
+pub record CheckPrinted (input : List ℕ) (old new : SinkState) : Type 0 where
   pub rows : ℕ
   pub locked : Option ℕ
   pub wrote : Wrote (true_line rows locked) old new
   pub is : IsTrueText input rows locked
 
 -- each batch command
-abbrev pub BatchPrinted : Batch → (input : List ℕ) (old new : Told) → Type 0
+abbrev pub BatchPrinted : Batch → (input : List ℕ) (old new : SinkState) → Type 0
 BatchPrinted batch.Run = ScriptPrinted run_text KeepsPromise
 BatchPrinted batch.Explain = ScriptPrinted explain_text KeepsPromise
 BatchPrinted batch.Record =
@@ -85,20 +85,21 @@ BatchPrinted batch.Table =
     λ input. Printed tabled_of (λ plan. codes "true\n") (IsTableOf input) input
 
 -- each command; what `node` promises is said of many calls
-abbrev pub PrintedBy : Command → (input : List ℕ) (old new : Told) → Type 0
+abbrev pub PrintedBy : Command → (input : List ℕ) (old new : SinkState) → Type 0
 PrintedBy (command.Batch b) = BatchPrinted b
 PrintedBy command.Check = λ input old new. length input ≤ 2 ^ 44 → CheckPrinted input old new
 PrintedBy (command.Demo seed) =
     λ input. ScriptPrinted run_text KeepsPromise (demo_text seed)
 PrintedBy command.Node = λ input old new. Unit {0}
 
--- where a call ended well
+-- if a call ended well
 abbrev pub IfWell : Status → Type 0 → Type 0
 IfWell status.Ok P = P
 IfWell other P = Unit {0}
 
--- where the source tells what it had left, and the call ended well
-abbrev pub Prints : Option Command → Status → (left : Option (List ℕ)) → (old new : Told) → Type 0
+-- if the source tells what it had left, and the call ended well
+abbrev pub Prints : Option Command → Status → (left : Option (List ℕ)) → (old new : SinkState)
+    → Type 0
 Prints None s left old new = Unit {0}
 Prints (Some command) s left old new =
     IfSome left (λ input. IfWell s (PrintedBy command input old new))
@@ -106,5 +107,5 @@ Prints (Some command) s left old new =
 -- Whatever a call does, it so prints.
 abbrev pub PromisesArePrinted : Type 0
 PromisesArePrinted = (c : Option Command) (s : Status) (left left' : Option (List ℕ))
-    (before now : ℕ) (old new : Told)
+    (before now : ℕ) (old new : SinkState)
     → Does c s left left' before now old new → Prints c s left old new

@@ -29,7 +29,7 @@ pub record IsRecorded (plan : Plan) (script : Script) : Type 0 where
   pub checks : defined (Some command.Check) (certificate_text (certificate_of plan script))
       ≡ verdict_outcome (recorded_verdict plan script)
 
--- where an input is a plan and a script, it is recorded
+-- if an input is a plan and a script, it is recorded
 abbrev pub RecordsAreChecked : Type 0
 RecordsAreChecked = (input : List ℕ)
     → IfOk (scripted_of input) (λ scripted. IsRecorded scripted.plan scripted.script)

@@ -12,8 +12,8 @@ use Rattle.promises.specs.CallWindows.{cell_written, states_written, CallsConnec
 use Rattle.promises.specs.CallWindows.{NodesKeepPromise}
 
 -- The other correct nodes keep their promise all the time; with the one that is started anew all
--- keep it in the rest; the others are in the same states in both; and where it goes on from the
--- cell that was written in its place all stay locked.
+-- keep it in the rest; the others are in the same states in both; and if it goes on from the cell
+-- that was written in its place, all stay locked.
 pub record RestartIsKept (plan : Plan) (faulty meanwhile : List ℕ) (calls : ℕ → Call)
     (begins : ℕ → ℕ) (restart : Restart) (rounds : ℕ) : Type 0 where
   pub others : NodesKeepPromise plan meanwhile calls begins (restart.after + rounds)
@@ -28,8 +28,8 @@ pub record RestartIsKept (plan : Plan) (faulty meanwhile : List ℕ) (calls : �
       → StayLockedThrough plan faulty
       (states_written plan (calls_after restart calls) (begins_after restart begins)) 0 rounds
 
--- Where the plan tolerates it as a faulty node too, the others are undisturbed while it is away. It
--- counts with them T rounds after its start; and at once where it was handed the last cell that was
+-- If the plan tolerates it as a faulty node too, the others are undisturbed while it is away. It
+-- counts with them T rounds after its start; and at once if it was handed the last cell that was
 -- written in its place, so that this is its first one, and the configuration then was locked.
 abbrev pub RestartedNodesCount : Type 0
 RestartedNodesCount = (plan : Plan) (faulty meanwhile : List ℕ)

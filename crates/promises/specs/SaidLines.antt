@@ -38,7 +38,7 @@ pub record IsFirstOf (v : ℕ) (lines : List Start) (line : Start) : Type 0 wher
   pub none : NoneIsOf v before
 
 -- A node starts in the state of its first start line, and one without such a line as all nodes do.
--- Where an era begins, a node is put into the state of its first start line there, and one without
+-- When an era begins, a node is put into the state of its first start line there, and one without
 -- such a line is not hit.
 pub record SaysStarts (script : Script) : Type 0 where
   pub own : (v : ℕ) (line : Start) → IsFirstOf v script.starts line → start_of script v ≡ line.state
@@ -68,8 +68,8 @@ pub record Speaks (script : Script) (t u v : ℕ) (lie : Lie) : Type 0 where
   pub to : t ≤ lie.last
   pub heard : Hears script.groups lie.who v
 
--- What u tells v in round t is what the first lie gives that says this, and where none does, the
--- state of u's puppet.
+-- What u tells v in round t is what the first lie gives that says this, and if none does, the state
+-- of u's puppet.
 pub record SaysLies (script : Script) : Type 0 where
   pub told : (before after : List Lie) (lie : Lie) → script.lies ≡ before ++ lie ∷ after
       → (t u v : ℕ) → Speaks script t u v lie

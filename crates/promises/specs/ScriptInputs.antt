@@ -31,7 +31,7 @@ scripted_text plan script = plan_text plan.version plan ++ script_text script
 abbrev pub layered_text : Plan → (part : List ℕ) → Script → List ℕ
 layered_text plan part script = plan_text plan.version plan ++ (part ++ script_text script)
 
--- The texts of an accepted plan, and of a script for it that a text can say, one behind the other,
+-- The texts of an accepted plan, and of a script for it that a text can say, one after the other,
 -- are read as these; and so they are with the text of a slot table, of inputs, of requests or of a
 -- log between them. There are no other scripts: what any input is read as, these texts are read as.
 pub record ScriptInputsAreRead : Type 0 where

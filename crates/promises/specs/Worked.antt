@@ -118,8 +118,8 @@ pub record OthersAreRefused : Type 0 where
 abbrev pub fifth : List ℕ
 fifth = alone ++ codes "node 1\nid 0\nstate a0\nend\n"
 
--- What a call of `node` answers: the cells that it writes, at its start and behind each packet,
--- whatever it is told of itself; also where the input ends inside a packet; and the first line of a
+-- What a call of `node` answers: the cells that it writes, at its start and after each packet,
+-- whatever it hears of itself; also if the input ends inside a packet; and the first line of a
 -- header that fails. Skipped lines may stand in a header.
 pub record NodesAreAnswered : Type 0 where
   pub cells : node_outcome (fifth ++ 0 ∷ 1 ∷ 255 ∷ 0 ∷ 0 ∷ [])

@@ -32,9 +32,9 @@ states =
     ∷ []
 
 -- What node 1 tells node 2 in round 3: a state that is copied, a state that is said, its own state
--- with its values moved, and noise, by the key of zeros; noise by another key, and of another round;
--- what is infinite stays so, when it is moved; the states in which nodes start by noise and by zero;
--- and a state that is fitted into fields that are narrower.
+-- with its values moved, and noise, by the key of zeros; noise by another key, and of another
+-- round; what is infinite stays so, when it is moved; the states in which nodes start by noise and
+-- by zero; and a state that is fitted into fields that are narrower.
 pub record LiesAreWorked : Type 0 where
   pub copy : lie_state three 3 1 2 states (what.Copy 0)
       ≡ record { x = 5; registers = record { a = Some 9; d = true } ∷ [] }

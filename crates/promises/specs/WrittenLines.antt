@@ -40,7 +40,7 @@ module _ (plan : Plan) (script : Script) where
   abbrev pub shown_numbers : List ℕ
   shown_numbers = range_with_len script.first (script.last + 1 - script.first)
 
-  -- a word of each node, a star where it is faulty in configuration c
+  -- a word of each node, a star if it is faulty in configuration c
   abbrev pub starred : (c : ℕ) → (word : (v : ℕ) → List ℕ) → List (List ℕ)
   starred c word =
       map (λ v. if is_in (faulty_at script c) v then codes "*" else word v)

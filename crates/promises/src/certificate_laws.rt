@@ -10,9 +10,9 @@ use run_checker::certificate_laws::{
 };
 use run_checker::laws::{limits_matter_beyond, short_texts_are_checked};
 
-/// An input of at most 2^44 bytes is answered `true` by `check` exactly where it is the text of a
-/// run certificate whose rows are those of the run that it states, `false row` with the first that
-/// is not, and is refused exactly at the first line at which its lines begin no certificate. No
+/// An input of at most 2^44 bytes is answered `true` by `check` exactly if it is the text of a run
+/// certificate whose rows are those of the run that it states, `false row` with the first that is
+/// not, and is refused exactly at the first line at which its lines begin no certificate. No
 /// certificate is longer. The rows of a true one count from the bound on, in each of its eras; and
 /// the locked configuration that it is answered with is the first one of the last era, from which
 /// on they count.
@@ -27,7 +27,7 @@ pub fn check_is_exact()
     true_locks_are_first();
 }
 
-/// Where an input is a plan and a script, what `record` writes is the text of a run certificate, of
+/// If an input is a plan and a script, what `record` writes is the text of a run certificate, of
 /// this plan and of what is played of the script, which `check` calls true, with the number of its
 /// configurations and the first locked one of the script's last era.
 pub fn records_are_checked()

@@ -11,8 +11,8 @@ use slot_table::laws::at_most_one_holds;
 
 /// In every run of an accepted plan with a layer, whatever its start and its lies, from the bound
 /// on: at most one correct node holds by a slot table; each slot of consensus ends with one
-/// decision, also where inputs change from round to round, of firing with all firing or none, and
-/// of a log with one entry that all correct nodes put, also where commands change.
+/// decision, also when inputs change from round to round, of firing with all firing or none, and of
+/// a log with one entry that all correct nodes put, also when commands change.
 pub fn every_run_keeps()
     ensures { EveryRunKeeps }
 {

@@ -5,8 +5,8 @@ ghost use Rattle.promises.specs.FindPromises.{LeastIsFound};
 
 use plan_finder::laws::{finds_least, potentials_bound};
 
-/// Where the wants of an input of `find` are read: the plan in the answer is the least accepted one
-/// that meets them, `none` exactly where no plan does, and each pair is there with its least cost.
+/// If the wants of an input of `find` are read, the plan in the answer is the least accepted one
+/// that meets them, `none` exactly if no plan does, and each pair is there with its least cost.
 /// These bound from below how soon any accepted plan of version 1 with so many faults settles.
 pub fn least_is_found()
     ensures { LeastIsFound }

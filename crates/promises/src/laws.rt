@@ -28,14 +28,14 @@ pub fn accepted_stabilise()
     versions_agree();
 }
 
-/// Where the plan part of an input is accepted, the plan does so.
+/// If the plan part of an input is accepted, the plan does so.
 pub fn accepted_plans_settle()
     ensures { AcceptedPlansSettle }
 {
     accepted_stabilise();
 }
 
-/// Where an input is a plan and a script, what is played has the script's starts, faulty sets and
+/// If an input is a plan and a script, what is played has the script's starts, faulty sets and
 /// lies, and all rows that are shown are played ones. What is written has just its lines. What is
 /// played of each era is a run of the plan with few faulty nodes; what is written of it counts from
 /// the bound on, and from its first locked configuration on, to the era's end, and is locked from
@@ -63,7 +63,7 @@ pub fn undisturbed_is_defined()
     ensures { UndisturbedIsDefined }
 {}
 
-/// So has every call over a source and a sink that count no faults, as `PlainSource` and
+/// So has every call over a source and a sink that count no faults, like `PlainSource` and
 /// `NullSink`.
 pub fn plain_is_defined()
     ensures { PlainIsDefined }
@@ -83,7 +83,7 @@ pub fn cuts_are_unseen()
 {}
 
 /// The text that `demo` makes is a plan and a script for every seed, so that the promise holds of
-/// what is written; its rows lie behind the bound, and three nodes say noise in all rounds, whose
+/// what is written; its rows lie after the bound, and three nodes say noise in all rounds, whose
 /// key has the seed. Which nodes these are has three choices, by the seed. No refusal is answered
 /// to `demo` and a number.
 pub fn demo_is_answered()

@@ -13,11 +13,11 @@ use firing::Firing;
 use replicated_log::Replica;
 use run_lines::laws::{at_most_one_in_a_line, hold_words_are_exact};
 
-/// Where an input is a plan, a slot table and a script, what is played is the script's: its starts,
+/// If an input is a plan, a slot table and a script, what is played is the script's: its starts,
 /// its faulty sets and its lies. What is written has just its lines. A node's word in a line is 1
-/// exactly where the table gives it the output that it shows, which it does from the first output
-/// of a line to the last; and from the plan's bound on, counted from the first configuration of the
-/// era, at most one word is.
+/// exactly if the table gives it the output that it shows, which it does from the first output of a
+/// line to the last; and from the plan's bound on, counted from the first configuration of the era,
+/// at most one word is.
 pub fn holds_are_kept()
     ensures { HoldsAreKept }
 {
@@ -27,10 +27,10 @@ pub fn holds_are_kept()
     at_most_one_in_a_line();
 }
 
-/// Where an input is a plan, inputs to agree on and a script, what is played is the script's. What
-/// is written has just its lines: there is one of each slot that counts and begins in a
-/// configuration that is shown. In each line of a slot the words of all correct nodes are one
-/// number, which is their common input where they have one.
+/// If an input is a plan, inputs to agree on and a script, what is played is the script's. What is
+/// written has just its lines: there is one of each slot that counts and begins in a configuration
+/// that is shown. In each line of a slot the words of all correct nodes are one number, which is
+/// their common input if they have one.
 pub fn decisions_are_kept()
     ensures { DecisionsAreKept }
 {
@@ -40,11 +40,10 @@ pub fn decisions_are_kept()
     lines_decide();
 }
 
-/// Where an input is a plan, requests and a script, what is played is the script's. What is written
+/// If an input is a plan, requests and a script, what is played is the script's. What is written
 /// has just its lines: there is one of each slot that counts and begins in a configuration that is
 /// shown. In each line of a slot all correct nodes fire or none does, as they requested in the
-/// round before the slot, where they did the same. They request in the rounds of which a line says
-/// so.
+/// round before the slot, if they did the same. They request in the rounds of which a line says so.
 pub fn fires_are_kept()
     ensures { FiresAreKept }
 {
@@ -54,12 +53,11 @@ pub fn fires_are_kept()
     lines_fire_together();
 }
 
-/// Where an input is a plan, a log and a script, what is played is the script's. What is written
-/// has just its lines: there is one of each slot that counts and begins in a configuration that is
+/// If an input is a plan, a log and a script, what is played is the script's. What is written has
+/// just its lines: there is one of each slot that counts and begins in a configuration that is
 /// shown. In each line of a slot the words of all correct nodes are one number, the value of the
 /// slot's own entry. It is what the owner that the line names commands at the output with which the
-/// slot begins, where that owner is correct. Nodes own slots in turn, and give their commands in
-/// turn.
+/// slot begins, if that owner is correct. Nodes own slots in turn, and give their commands in turn.
 pub fn entries_are_kept()
     ensures { EntriesAreKept }
 {

@@ -8,9 +8,9 @@ use consensus_layer::Agreement;
 use firing::Firing;
 use replicated_log::Replica;
 
-/// Where an input of `slots`, `consensus`, `fire` or `log` is a plan, such a part and a script: the
-/// number behind `locked` in the line of an era is the era's first locked configuration, and is at
-/// most the plan's bound after the era's first configuration, where the era reaches that.
+/// If an input of `slots`, `consensus`, `fire` or `log` is a plan, such a part and a script, the
+/// number after `locked` in the line of an era is the era's first locked configuration, and is at
+/// most the plan's bound after the era's first configuration, if the era reaches that.
 pub fn locks_are_kept()
     ensures { LocksAreKept }
 {

@@ -16,9 +16,9 @@ use plan_reader::{plan_texts_read_back, tables_read_back};
 use replicated_log::laws::log_texts_read_back;
 use slot_table::laws::slot_texts_read_back;
 
-/// Where an input is a plan: its table, which `plan` writes, has its numbers, line by line, and is
+/// If an input is a plan, its table, which `plan` writes, has its numbers, line by line, and is
 /// read back as this plan, and its text in version 2, which `upgrade` writes, as a plan of the same
-/// counter. Where `table` answers `true`, the input is the table of an accepted plan.
+/// counter. If `table` answers `true`, the input is the table of an accepted plan.
 pub fn texts_are_kept()
     ensures { TextsAreKept }
 {
@@ -35,9 +35,9 @@ pub fn skipped_lines_are_unseen()
 
 /// Each of these values has a text that is read as it: an accepted plan, in its own version and in
 /// each later one, and its table; wants, a slot table, inputs to agree on, requests to fire, a log
-/// and a header of a node; and a script, behind the texts of its plan and of a part. So has the
-/// text that `demo` makes of a seed. Skipped lines may stand anywhere in these, what is within the
-/// limit is answered, and worked values say how they and their refusals are spelled.
+/// and a header of a node; and a script, after the texts of its plan and of a part. So has the text
+/// that `demo` makes of a seed. Skipped lines may stand anywhere in these, what is within the limit
+/// is answered, and worked values say how they and their refusals are spelled.
 pub fn texts_are_read()
     ensures { TextsAreRead }
 {

@@ -31,20 +31,20 @@ pub fn scripts_are_played<O: Overlay>()
 {}
 
 /// In each line of a slot of consensus the words of all correct nodes are one number, which is
-/// their common input where they have one.
+/// their common input if they have one.
 pub fn lines_decide()
     ensures { LinesDecide }
 {}
 
 /// In each line of a slot of firing all words of correct nodes say that they fire, or all that they
-/// don't: as the correct nodes requested in the round before the slot, where they did the same.
+/// don't: as the correct nodes requested in the round before the slot, if they did the same.
 pub fn lines_fire_together()
     ensures { LinesFireTogether }
 {}
 
 /// In each line of a slot of the log the words of all correct nodes are one number, the value of
-/// the slot's own entry, which stands newest in the log of each of them. Where the owner that the
-/// line names is correct, it is what the owner commands at the output with which the slot begins.
+/// the slot's own entry, which stands newest in the log of each of them. If the owner that the line
+/// names is correct, it is what the owner commands at the output with which the slot begins.
 pub fn lines_put_one()
     ensures { LinesPutOne }
 {}
@@ -69,7 +69,7 @@ pub fn texts_are_written()
     ensures { TextsAreWritten }
 {}
 
-/// With a layer whose step keeps values in range, a line of a slot is written just where a slot
+/// With a layer whose step keeps values in range, a line of a slot is written exactly if a slot
 /// begins in a configuration that is shown, later than the bound in its era, and ends in that era
 /// and within the rounds.
 pub fn slots_are_exact<O: Overlay>()

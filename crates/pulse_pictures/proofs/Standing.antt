@@ -5,7 +5,7 @@ use Rattle.std.proofs.lemmas.Bool.{cases_lt, ne_eqb}
 use Rattle.std.proofs.lemmas.List.{get_or_default, drop_more}
 use Rattle.trace_pictures.specs.TraceSaid.{is_other}
 use Rattle.pulse_pictures.specs.declared.pulse_notes.PulseNote.{PulseNote}
-use Rattle.pulse_pictures.specs.declared.pulse_notes.Stand.{Stand}
+use Rattle.pulse_pictures.specs.declared.pulse_notes.GroupInstruction.{GroupInstruction}
 use Rattle.pulse_pictures.specs.PulseSaid.{ColumnsRise, IsBefore, IsSharedByAll, KnowsValue}
 use Rattle.pulse_pictures.specs.PulseSaid.{is_lost_before, stands, value_behind, value_told}
 
@@ -68,14 +68,14 @@ module _ (notes : List PulseNote) (k : ℕ) (note : PulseNote)
         (omega (arith, most_more i d (omega (arith, order, within)), ap (λ n. n.column) (is d)))
   ]
 
--- ---- turns
+-- ---- phases
 
--- in another column no line speaks of a turn
-pub deaf : (stand : Stand) (note : PulseNote) → (note.column ≡ stand.column → ⊥)
+-- in another column no line speaks of a phase
+pub deaf : (stand : GroupInstruction) (note : PulseNote) → (note.column ≡ stand.column → ⊥)
     → is_other (stands stand note) ≡ false
 deaf stand note apart = rw (ne_eqb note.column stand.column apart) refl
 
--- where one line before a place stands before a column, all lines before the place do
+-- if one line before a place stands before a column, all lines before the place do
 pub starts_before : (notes : List PulseNote) (from column : ℕ) (d : PulseNote) → ColumnsRise notes
     → from - 1 < length notes → (get_or notes (from - 1) d).column < column
     → IsBefore column from notes
@@ -89,7 +89,7 @@ starts_before notes from column d rise inside before k e within less =
       rise k (from - 1) e (omega (arith, less)) inside,
     )
 
-module _ (stand : Stand) (notes : List PulseNote) (rise : ColumnsRise notes) where
+module _ (stand : GroupInstruction) (notes : List PulseNote) (rise : ColumnsRise notes) where
   -- lines from a place on stand in later columns
   pub shared_so_far : (k : ℕ) (note : PulseNote) → ((d : PulseNote) → note ≡ get_or notes k d)
       → stand.column < note.column
@@ -103,7 +103,7 @@ module _ (stand : Stand) (notes : List PulseNote) (rise : ColumnsRise notes) whe
         (λ same. omega (arith, rise k j d later within, ap (λ n. n.column) (is d), late, same))
   ]
 
-  -- one line more, on which no other turn is had
+  -- one line more, on which no other phase is had
   pub shared_more : (k : ℕ) (note : PulseNote) → ((d : PulseNote) → note ≡ get_or notes k d)
       → is_other (stands stand note) ≡ false
       → ((j : ℕ) (d : PulseNote) → j < length notes → j < k

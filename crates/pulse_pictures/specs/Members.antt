@@ -4,7 +4,7 @@ use Rattle.std.specs.Prelude.{Some, None, if◌then◌else◌, codes, decimal}
 use Rattle.std.specs.List.{concat}
 use Rattle.picture_parts.specs.declared.faces.Face.TheVariants as face
 use Rattle.picture_parts.specs.declared.frames.Frame.{Frame}
-use Rattle.picture_parts.specs.declared.frames.Spot.{Spot}
+use Rattle.picture_parts.specs.declared.frames.CellPosition.{CellPosition}
 use Rattle.picture_parts.specs.Frames.{band_top, configuration, left, spot_top, width}
 use Rattle.picture_parts.specs.Squares.{column_head, hover_front, node_label, rectangle_front}
 use Rattle.picture_parts.specs.Squares.{shown_at}
@@ -22,7 +22,7 @@ use Rattle.pulse_pictures.specs.declared.pulse_notes.Member.{Member}
 use Rattle.pulse_pictures.specs.declared.pulse_notes.Told.{Told}
 use Rattle.pulse_pictures.specs.declared.pulse_notes.Told.TheVariants.{Shows, Holds}
 use Rattle.pulse_pictures.specs.declared.pulse_notes.PulseNote.{PulseNote}
-use Rattle.pulse_pictures.specs.declared.pulse_notes.Stand.{Stand}
+use Rattle.pulse_pictures.specs.declared.pulse_notes.GroupInstruction.{GroupInstruction}
 use Rattle.pulse_pictures.specs.declared.pulse_notes.Heading.{Heading}
 use Rattle.pulse_pictures.specs.PulseTexts.{king_of, member_words, turn_of}
 
@@ -48,13 +48,13 @@ fires_for half.Right fires.Left = false
 fires_for half.Right fires.Right = true
 fires_for half.Right fires.Both = true
 
--- the frame of a bar, black where the node fires
+-- the frame of a bar, black if the node fires
 abbrev pub rim : (is_fired : Bool) → List ℕ
 rim true = codes "' stroke='black'/>\n"
 rim false = codes "' stroke='white'/>\n"
 
 -- a bar below a cell, half as wide
-abbrev pub bar_at : Spot → (x : ℕ) (fill frame : List ℕ) → List ℕ
+abbrev pub bar_at : CellPosition → (x : ℕ) (fill frame : List ℕ) → List ℕ
 bar_at spot x fill frame = concat (
     codes "<rect x='" ∷ decimal x
     ∷ codes "' y='" ∷ decimal (spot_top spot + 19)
@@ -62,68 +62,68 @@ bar_at spot x fill frame = concat (
     ∷ codes "' height='8' fill='" ∷ fill ∷ frame ∷ [])
 
 -- that of the left half, and beside it that of the right half
-abbrev pub left_bar : Spot → Hearing → List ℕ
+abbrev pub left_bar : CellPosition → Hearing → List ℕ
 left_bar spot hearing =
     bar_at spot (left spot) (tint half.Left hearing.left.grade)
     (rim (fires_for half.Left hearing.fires))
 
-abbrev pub right_bar : Spot → Hearing → List ℕ
+abbrev pub right_bar : CellPosition → Hearing → List ℕ
 right_bar spot hearing =
     bar_at spot (left spot + width spot / 2) (tint half.Right hearing.right.grade)
     (rim (fires_for half.Right hearing.fires))
 
-abbrev pub both_bars : Spot → Hearing → List ℕ
+abbrev pub both_bars : CellPosition → Hearing → List ℕ
 both_bars spot hearing = left_bar spot hearing ++ right_bar spot hearing
 
-abbrev pub bars : Spot → Option Hearing → List ℕ
+abbrev pub bars : CellPosition → Option Hearing → List ℕ
 bars spot None = []
 bars spot (Some hearing) = both_bars spot hearing
 
--- a dot in a bar, where the node itself saw the pulse
-abbrev pub dot_at : Spot → (x : ℕ) (saw : Bool) → List ℕ
+-- a dot in a bar, if the node itself saw the pulse
+abbrev pub dot_at : CellPosition → (x : ℕ) (saw : Bool) → List ℕ
 dot_at spot x false = []
 dot_at spot x true = concat (
     codes "<circle cx='" ∷ decimal x
     ∷ codes "' cy='" ∷ decimal (spot_top spot + 23)
     ∷ codes "' r='2' stroke='white'/>\n" ∷ [])
 
-abbrev pub left_dot : Spot → (saw : Bool) → List ℕ
+abbrev pub left_dot : CellPosition → (saw : Bool) → List ℕ
 left_dot spot saw = dot_at spot (left spot + width spot / 4) saw
 
-abbrev pub right_dot : Spot → (saw : Bool) → List ℕ
+abbrev pub right_dot : CellPosition → (saw : Bool) → List ℕ
 right_dot spot saw = dot_at spot (left spot + width spot * 3 / 4) saw
 
-abbrev pub member_pulses : Spot → Member → List ℕ
+abbrev pub member_pulses : CellPosition → Member → List ℕ
 member_pulses spot member =
     bars spot member.hearing ++ (left_dot spot member.saw_left ++ right_dot spot member.saw_right)
 
 -- ---- what a node holds in a group
 
--- what is told of it where the pointer rests on it: the words of its line
-abbrev pub member_hover : Spot → (node : ℕ) → Member → List ℕ
+-- what is said of it when the pointer rests on it: the words of its line
+abbrev pub member_hover : CellPosition → (node : ℕ) → Member → List ℕ
 member_hover spot node member =
     hover_front spot node ++ (codes ":" ++ (member_words member ++ codes "</title>\n"))
 
 -- the register
-abbrev pub member_square : Spot → Member → List ℕ
+abbrev pub member_square : CellPosition → Member → List ℕ
 member_square spot member =
     rectangle_front spot
     ++ (ground member.value member.held
     ++ (cover spot member.held ++ value_text spot member.value))
 
-abbrev pub member_at : Spot → (node : ℕ) → Member → List ℕ
+abbrev pub member_at : CellPosition → (node : ℕ) → Member → List ℕ
 member_at spot node member =
     member_hover spot node member
     ++ (member_square spot member ++ (member_pulses spot member ++ codes "</g>\n"))
 
 -- a faulty node is hatched, whatever it holds
-abbrev pub member_cell : Spot → (node : ℕ) (faulty : Bool) → Member → List ℕ
+abbrev pub member_cell : CellPosition → (node : ℕ) (faulty : Bool) → Member → List ℕ
 member_cell spot node true member = shown_at spot node face.Faulty false
 member_cell spot node false member = member_at spot node member
 
 -- ---- lines
 
-abbrev pub told_cell : Spot → PulseNote → Told → List ℕ
+abbrev pub told_cell : CellPosition → PulseNote → Told → List ℕ
 told_cell spot note (Shows shown) =
     shown_at spot note.node (face_in note.is_faulty note.is_lost shown.output) note.is_hit
 told_cell spot note (Holds member) = member_cell spot note.node note.is_faulty member
@@ -132,7 +132,7 @@ abbrev pub pulse_head : Frame → PulseNote → List ℕ
 pulse_head frame note = if note.is_first then column_head frame note.column else []
 
 -- where a line is drawn
-abbrev pub pulse_spot : Frame → PulseNote → Spot
+abbrev pub pulse_spot : Frame → PulseNote → CellPosition
 pulse_spot frame note = record {
   frame = frame;
   column = note.column;
@@ -140,17 +140,17 @@ pulse_spot frame note = record {
 }
 
 -- a line in its spot
-abbrev pub pulse_note_at : Spot → PulseNote → List ℕ
+abbrev pub pulse_note_at : CellPosition → PulseNote → List ℕ
 pulse_note_at spot note =
     pulse_head spot.frame note ++ (node_label spot note.node ++ told_cell spot note note.told)
 
 abbrev pub pulse_note_picture : Frame → PulseNote → List ℕ
 pulse_note_picture frame note = pulse_note_at (pulse_spot frame note) note
 
--- ---- the kings' turns
+-- ---- the kings' phases
 
--- what is told of a turn where the pointer rests on it
-abbrev pub stand_hover : Spot → Stand → List ℕ
+-- what is said of a phase when the pointer rests on it
+abbrev pub stand_hover : CellPosition → GroupInstruction → List ℕ
 stand_hover spot stand = concat (
     codes "<g><title>configuration " ∷ decimal (configuration spot)
     ∷ codes ", group " ∷ decimal stand.first ∷ codes " " ∷ decimal stand.last
@@ -158,25 +158,25 @@ stand_hover spot stand = concat (
     ∷ turn_word (turn_of stand.instruction) ∷ decimal (king_of stand.first stand.instruction)
     ∷ codes "</title>\n" ∷ [])
 
--- its front in gold, and a frame
-abbrev pub stand_box : Spot → Stand → List ℕ
+-- its share in gold, and a frame
+abbrev pub stand_box : CellPosition → GroupInstruction → List ℕ
 stand_box spot stand =
     gold_part spot (share (width spot) (turn_of stand.instruction)) (edge stand.is_common)
 
-abbrev pub stand_at : Spot → Stand → List ℕ
+abbrev pub stand_at : CellPosition → GroupInstruction → List ℕ
 stand_at spot stand =
     stand_hover spot stand
     ++ (stand_box spot stand ++ king_text spot (king_of stand.first stand.instruction))
 
--- where a turn is drawn
-abbrev pub stand_spot : Frame → Stand → Spot
+-- where a phase is drawn
+abbrev pub stand_spot : Frame → GroupInstruction → CellPosition
 stand_spot frame stand = record {
   frame = frame;
   column = stand.column;
   top = stand.top;
 }
 
-abbrev pub stand_picture : Frame → Stand → List ℕ
+abbrev pub stand_picture : Frame → GroupInstruction → List ℕ
 stand_picture frame stand = stand_at (stand_spot frame stand) stand
 
 -- ---- the words before a strip

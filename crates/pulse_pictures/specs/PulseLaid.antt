@@ -1,4 +1,4 @@
--- Where the lines, the kings' turns and the groups of a trace of a pulse plan belong.
+-- Where the lines, the kings' phases and the groups of a trace of a pulse plan belong.
 use Rattle.std.specs.Prelude.{◌≡◌, ℕ, ◌+◌, ◌-◌, ◌*◌, ◌/◌, ◌%◌, ◌<◌, ◌≤◌, ◌==◌, ◌&&◌, ◌||◌, nat_lt}
 use Rattle.std.specs.Prelude.{List, [], ◌∷◌, length, take, Bool, true, false, Option, Some, None}
 use Rattle.std.specs.Prelude.{slice_index_or, All, AllPairs}
@@ -9,7 +9,7 @@ use Rattle.pulse_pictures.specs.declared.pulse_notes.Member.{Member}
 use Rattle.pulse_pictures.specs.declared.pulse_notes.Told.{Told}
 use Rattle.pulse_pictures.specs.declared.pulse_notes.Told.TheVariants.{Shows, Holds}
 use Rattle.pulse_pictures.specs.declared.pulse_notes.PulseNote.{PulseNote}
-use Rattle.pulse_pictures.specs.declared.pulse_notes.Stand.{Stand}
+use Rattle.pulse_pictures.specs.declared.pulse_notes.GroupInstruction.{GroupInstruction}
 use Rattle.pulse_pictures.specs.declared.pulse_notes.Heading.{Heading}
 use Rattle.pulse_pictures.specs.declared.pulse_notes.Strip.{Strip}
 use Rattle.pulse_pictures.specs.declared.pulse_notes.PulseTrace.{PulseTrace}
@@ -53,9 +53,8 @@ abbrev pub IsAtHeight : List Strip → (place top node : ℕ) → Told → Type 
 IsAtHeight strips place top node (Shows output) = top ≡ line_top place
 IsAtHeight strips place top node (Holds member) = StandsInStrip strips place top node member
 
--- A line of a node, where so many outputs, `before`, were shown before that of its node: it is on
--- the node whose turn it is, and stands in the column of its configuration, and in the line of its
--- node.
+-- A line of a node, if so many outputs, `before`, were shown before that of its node: it is on the
+-- node that is due, and stands in the column of its configuration, and in the line of its node.
 pub record IsNoteLaid (strips : List Strip) (nodes : ℕ) (ids : List ℕ) (before : ℕ)
     (note : PulseNote) : Type 0 where
   pub node : (d : ℕ) → slice_index_or ids (before % nodes) d ≡ note.node
@@ -74,45 +73,47 @@ abbrev pub AreLinesLaid : List Strip → (nodes : ℕ) → (ids : List ℕ) → 
 AreLinesLaid strips nodes ids notes =
     (k : ℕ) (d : PulseNote) → k < length notes → IsLaidAt strips nodes ids notes k d
 
--- ---- kings' turns
+-- ---- kings' phases
 
--- the turn of a group at an instruction, in the column of its configuration
-pub record IsStandOf (column : ℕ) (member : Member) (instruction : ℕ) (stand : Stand)
+-- the phase of a group at an instruction, in the column of its configuration
+pub record IsStandOf (column : ℕ) (member : Member) (instruction : ℕ) (stand : GroupInstruction)
     : Type 0 where
   pub at_column : stand.column ≡ column
   pub of_first : stand.first ≡ member.first
   pub of_last : stand.last ≡ member.last
   pub same : stand.instruction ≡ instruction
 
--- one of the turns is this
-pub record HasStandOf (stands : List Stand) (column : ℕ) (member : Member) (instruction : ℕ)
+-- one of the phases is this
+pub record HasStandOf (stands : List GroupInstruction) (column : ℕ) (member : Member)
+    (instruction : ℕ)
     : Type 0 where
   pub place : ℕ
   pub inside : place < length stands
-  pub is : (d : Stand) → IsStandOf column member instruction (slice_index_or stands place d)
+  pub is : (d : GroupInstruction) → IsStandOf column member instruction
+      (slice_index_or stands place d)
 
-abbrev pub HasStandAt : List Stand → (column : ℕ) → Member → Option ℕ → Type 0
+abbrev pub HasStandAt : List GroupInstruction → (column : ℕ) → Member → Option ℕ → Type 0
 HasStandAt stands column member (Some instruction) = HasStandOf stands column member instruction
 HasStandAt stands column member None = Unit {0}
 
--- where a correct node stands at an instruction, the turn is drawn
-abbrev pub HasStandIf : List Stand → (faulty : Bool) → (column : ℕ) → Told → Type 0
+-- if a correct node stands at an instruction, the phase is drawn
+abbrev pub HasStandIf : List GroupInstruction → (faulty : Bool) → (column : ℕ) → Told → Type 0
 HasStandIf stands true column told = Unit {0}
 HasStandIf stands false column (Shows output) = Unit {0}
 HasStandIf stands false column (Holds member) = HasStandAt stands column member member.instruction
 
-abbrev pub HasStand : List Stand → PulseNote → Type 0
+abbrev pub HasStand : List GroupInstruction → PulseNote → Type 0
 HasStand stands note = HasStandIf stands note.is_faulty note.column note.told
 
--- a turn stands above the cells of its group's strip
-pub record IsStandLaid (strips : List Strip) (stand : Stand) : Type 0 where
+-- a phase stands above the cells of its group's strip
+pub record IsStandLaid (strips : List Strip) (stand : GroupInstruction) : Type 0 where
   pub strip : Strip
   pub is : IsStripOf strips stand.first stand.last strip
   pub below : strip.top ≤ stand.top
   pub above : stand.top + 16 ≤ strip.cells
 
--- turns of one group in one column stand one below the other
-abbrev pub AreApart : (turn later : Stand) → Type 0
+-- phases of one group in one column stand one below the other
+abbrev pub AreApart : (turn later : GroupInstruction) → Type 0
 AreApart turn later =
     turn.column ≡ later.column → turn.first ≡ later.first → turn.last ≡ later.last
     → turn.top + 16 ≤ later.top
@@ -125,12 +126,12 @@ abbrev pub is_later : (first last : ℕ) → Strip → Bool
 is_later first last strip =
     nat_lt first strip.first || ((first == strip.first) && nat_lt strip.last last)
 
--- a strip begins at this height or below it, with room for a row of turns
+-- a strip begins at this height or below it, with room for a row of phases
 pub record HasRoom (from : ℕ) (strip : Strip) : Type 0 where
   pub below : from ≤ strip.top
   pub turns : strip.top + 16 ≤ strip.cells
 
--- Strips stand one below the other, from one height to another, in each a row of turns and a line
+-- Strips stand one below the other, from one height to another, in each a row of phases and a line
 -- for each of its nodes; each group comes after the one before it, so none comes twice.
 abbrev pub AreStackedBelow : (first last from : ℕ) → List Strip → (end : ℕ) → Type 0
 AreStackedBelow first last from [] end = from ≤ end
@@ -144,7 +145,7 @@ AreStacked from (strip ∷ strips) end =
     HasRoom from strip
     × AreStackedBelow strip.first strip.last (strip.cells + 28 * strip.nodes) strips end
 
--- the words before a strip stand beside its turns, at the front of a band
+-- the words before a strip stand beside its phases, at the beginning of a band
 pub record IsHeadingLaid (strips : List Strip) (heading : Heading) : Type 0 where
   pub strip : Strip
   pub is : IsStripOf strips heading.first heading.last strip
@@ -155,7 +156,7 @@ pub record IsHeadingLaid (strips : List Strip) (heading : Heading) : Type 0 wher
 
 -- Each configuration has a column, and in it each node its lines: its output, and what it holds in
 -- its groups, in the strips of these. The nodes are the same ones in each, and their ids rise. Each
--- turn that a correct node has is drawn, and none covers another. Nothing else covers the outputs
+-- phase that a correct node has is drawn, and none covers another. Nothing else covers the outputs
 -- and the strips. The lines say what is drawn. There is a configuration, and a node in it.
 pub record IsPulseTraceLaid (trace : PulseTrace) : Type 0 where
   pub some : (1 ≤ trace.frame.columns) × (1 ≤ trace.nodes)

@@ -11,7 +11,7 @@ use Rattle.pulse_pictures.specs.Members.{heading_picture, pulse_note_picture, st
 
 -- ---- below the bands
 
--- what the registers and the kings' turns mean, from that height on
+-- what the registers and the kings' phases mean, from that height on
 abbrev pub register_legend : (y : ℕ) → List ℕ
 register_legend y = concat (
     codes "<g text-anchor='start' transform='translate(4," ∷ decimal y

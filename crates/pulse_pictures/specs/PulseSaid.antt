@@ -9,7 +9,7 @@ use Rattle.pulse_pictures.specs.declared.pulse_notes.Member.{Member}
 use Rattle.pulse_pictures.specs.declared.pulse_notes.Told.{Told}
 use Rattle.pulse_pictures.specs.declared.pulse_notes.Told.TheVariants.{Shows, Holds}
 use Rattle.pulse_pictures.specs.declared.pulse_notes.PulseNote.{PulseNote}
-use Rattle.pulse_pictures.specs.declared.pulse_notes.Stand.{Stand}
+use Rattle.pulse_pictures.specs.declared.pulse_notes.GroupInstruction.{GroupInstruction}
 use Rattle.pulse_pictures.specs.declared.pulse_notes.Strip.{Strip}
 use Rattle.pulse_pictures.specs.declared.pulse_notes.PulseTrace.{PulseTrace}
 
@@ -33,12 +33,12 @@ abbrev pub value_behind : List PulseNote → Option (Option ℕ)
 value_behind [] = None
 value_behind (note ∷ notes) = value_told note.told
 
--- whether an output stands for no value, where this is what the line behind it says
+-- whether an output stands for no value, if this is what the line after it says
 abbrev pub is_lost_before : Told → (later : Option (Option ℕ)) → Bool
 is_lost_before (Shows shown) later = lacks_value later
 is_lost_before (Holds member) later = false
 
--- an output knows whether the line behind it says that its node has no value
+-- an output knows whether the line after it says that its node has no value
 abbrev pub KnowsValue : List PulseNote → (k : ℕ) → PulseNote → Type 0
 KnowsValue notes k note =
     note.is_lost ≡ is_lost_before note.told (value_behind (drop (k + 1) notes))
@@ -47,26 +47,26 @@ abbrev pub KnowValues : List PulseNote → Type 0
 KnowValues notes =
     (k : ℕ) (d : PulseNote) → k < length notes → KnowsValue notes k (slice_index_or notes k d)
 
--- ---- kings' turns
+-- ---- kings' phases
 
 -- whether a node stands at an instruction; one that waits stands at none
 abbrev pub is_at : (instruction : ℕ) → Option ℕ → Bool
 is_at instruction None = false
 is_at instruction (Some other) = other == instruction
 
--- the same of what a node holds in the turn's group
-abbrev pub member_as : Stand → Member → Option Bool
+-- the same of what a node holds in the phase's group
+abbrev pub member_as : GroupInstruction → Member → Option Bool
 member_as stand member =
     if (member.first == stand.first) && (member.last == stand.last)
     then Some (is_at stand.instruction member.instruction) else None
 
-abbrev pub told_as : Stand → Told → Option Bool
+abbrev pub told_as : GroupInstruction → Told → Option Bool
 told_as stand (Shows shown) = None
 told_as stand (Holds member) = member_as stand member
 
--- Where a line is on what a correct node holds in a turn's column and group: whether it stands at
--- this turn's instruction. Else nothing.
-abbrev pub stands : Stand → PulseNote → Option Bool
+-- If a line is on what a correct node holds in a phase's column and group: whether it stands at
+-- this phase's instruction. Else nothing.
+abbrev pub stands : GroupInstruction → PulseNote → Option Bool
 stands stand note =
     if (note.column == stand.column) && not note.is_faulty then told_as stand note.told else None
 
@@ -82,25 +82,26 @@ IsBefore column from notes =
     (k : ℕ) (d : PulseNote) → k < length notes → k < from
     → (slice_index_or notes k d).column < column
 
--- some line says so of a turn
-pub record HasStander (stand : Stand) (notes : List PulseNote) (same : Bool) : Type 0 where
+-- some line says so of a phase
+pub record HasStander (stand : GroupInstruction) (notes : List PulseNote)
+    (same : Bool) : Type 0 where
   pub place : ℕ
   pub inside : place < length notes
   pub is : (d : PulseNote) → stands stand (slice_index_or notes place d) ≡ Some same
 
 -- no line says that a correct node of the group stands elsewhere, or waits
-abbrev pub IsSharedByAll : Stand → List PulseNote → Type 0
+abbrev pub IsSharedByAll : GroupInstruction → List PulseNote → Type 0
 IsSharedByAll stand notes =
     (k : ℕ) (d : PulseNote) → k < length notes
     → is_other (stands stand (slice_index_or notes k d)) ≡ false
 
--- a turn has a whole frame where all correct nodes of its group have it, and else a broken one
-abbrev pub IsFramed : Stand → List PulseNote → (common : Bool) → Type 0
+-- a phase has a whole frame if all correct nodes of its group have it, and else a broken one
+abbrev pub IsFramed : GroupInstruction → List PulseNote → (common : Bool) → Type 0
 IsFramed stand notes true = IsSharedByAll stand notes
 IsFramed stand notes false = HasStander stand notes false
 
--- a turn is one that some correct node has, in a frame that says whether all do
-pub record IsStandSaid (notes : List PulseNote) (stand : Stand) : Type 0 where
+-- a phase is one that some correct node has, in a frame that says whether all do
+pub record IsStandSaid (notes : List PulseNote) (stand : GroupInstruction) : Type 0 where
   pub there : HasStander stand notes true
   pub framed : IsFramed stand notes stand.is_common
 

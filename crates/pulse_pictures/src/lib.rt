@@ -1,14 +1,14 @@
 //! Pictures, in SVG, of what `trace` writes of a pulse plan: a column for each configuration, a
-//! line of cells for each node, and a strip for each group, with the kings' turns above it. In a
+//! line of cells for each node, and a strip for each group, with the kings' phases above it. In a
 //! strip a node of the group has its register, and below it what it knows of both halves' pulses.
 //!
 //! That the picture is the defined one of a trace is proved ([`put_pulse_picture`]), that its lines
-//! stand in their columns, lines and strips, and that just the kings' turns are there at which
+//! stand in their columns, lines and strips, and that just the kings' phases are there at which
 //! correct nodes stand ([`is_pulse_trace_laid`]). That all that `trace` writes is read, how wide
 //! columns are, and who is found hit, is not.
 #![tactic(auto)]
 
-// As `?` behind a part of a text that is written, but with no call of its own.
+// As `?` after a part of a text that is written, but with no call of its own.
 macro_rules! written {
     ($part:expr) => {
         match $part {

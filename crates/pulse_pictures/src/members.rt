@@ -13,15 +13,15 @@ use crate::pulse_notes::{Heading, Member, PulseNote, Told};
 use crate::pulse_printing::put_member;
 use edge_io::{Piece, Sink, WriteFault, put_all, put_pieces};
 use picture_parts::{
-    Face, Frame, Spot, band_top, put_column_head, put_hover_front, put_node_label, put_rectangle,
-    put_shown,
+    CellPosition, Face, Frame, band_top, put_column_head, put_hover_front, put_node_label,
+    put_rectangle, put_shown,
 };
 use trace_pictures::{face_in, put_cover, put_register_ground, put_value};
 
-/// Writes what is told of a node in a group where the pointer rests on it.
+/// Writes what is said of a node in a group when the pointer rests on it.
 fn put_member_hover<K: Sink>(
     sink: &mut K,
-    spot: Spot,
+    spot: CellPosition,
     node: u64,
     member: Member,
 ) -> Result<(), WriteFault>
@@ -34,7 +34,11 @@ fn put_member_hover<K: Sink>(
 }
 
 /// Draws the register of a node in a group.
-fn put_member_square<K: Sink>(sink: &mut K, spot: Spot, member: Member) -> Result<(), WriteFault>
+fn put_member_square<K: Sink>(
+    sink: &mut K,
+    spot: CellPosition,
+    member: Member,
+) -> Result<(), WriteFault>
     ensures { Puts result (member_square spot member) (K.told sink.old) (K.told sink.new) }
 {
     written!(put_rectangle(sink, spot));
@@ -43,10 +47,10 @@ fn put_member_square<K: Sink>(sink: &mut K, spot: Spot, member: Member) -> Resul
     put_value(sink, spot, member.value)
 }
 
-/// Draws what a node holds in a group, with what is told of it.
+/// Draws what a node holds in a group, with what is said of it.
 fn put_member_at<K: Sink>(
     sink: &mut K,
-    spot: Spot,
+    spot: CellPosition,
     node: u64,
     member: Member,
 ) -> Result<(), WriteFault>
@@ -61,7 +65,7 @@ fn put_member_at<K: Sink>(
 /// Draws the same, but for a faulty node, which is hatched whatever it holds.
 fn put_member_cell<K: Sink>(
     sink: &mut K,
-    spot: Spot,
+    spot: CellPosition,
     node: u64,
     is_faulty: bool,
     member: Member,
@@ -78,7 +82,7 @@ fn put_member_cell<K: Sink>(
 /// Draws what a line is about.
 fn put_told_cell<K: Sink>(
     sink: &mut K,
-    spot: Spot,
+    spot: CellPosition,
     note: PulseNote,
     told: Told,
 ) -> Result<(), WriteFault>
@@ -108,10 +112,10 @@ fn put_pulse_head<K: Sink>(sink: &mut K, frame: Frame, note: PulseNote) -> Resul
 }
 
 /// Where a line is drawn.
-fn pulse_spot(frame: Frame, note: PulseNote) -> Spot
+fn pulse_spot(frame: Frame, note: PulseNote) -> CellPosition
     ensures { result ≡ pulse_spot frame note }
 {
-    Spot {
+    CellPosition {
         frame,
         column: note.column,
         top: note.top,
@@ -119,7 +123,11 @@ fn pulse_spot(frame: Frame, note: PulseNote) -> Spot
 }
 
 /// Draws a line in its spot.
-fn put_pulse_note_at<K: Sink>(sink: &mut K, spot: Spot, note: PulseNote) -> Result<(), WriteFault>
+fn put_pulse_note_at<K: Sink>(
+    sink: &mut K,
+    spot: CellPosition,
+    note: PulseNote,
+) -> Result<(), WriteFault>
     ensures { Puts result (pulse_note_at spot note) (K.told sink.old) (K.told sink.new) }
 {
     written!(put_pulse_head(sink, spot.frame, note));

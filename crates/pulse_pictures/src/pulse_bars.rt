@@ -8,7 +8,7 @@ ghost use Rattle.pulse_pictures.specs.Members.{member_pulses, right_bar, right_d
 
 use crate::pulse_notes::{Fires, Grade, Half, Hearing, Member};
 use edge_io::{Piece, Sink, WriteFault, put_pieces};
-use picture_parts::{Spot, left, spot_top, width};
+use picture_parts::{CellPosition, left, spot_top, width};
 
 /// The colour of a pulse: the higher its grade, the darker.
 fn tint(half: Half, grade: Grade) -> &'static [u8]
@@ -48,7 +48,7 @@ fn fires_for(half: Half, fires: Fires) -> bool
     }
 }
 
-/// The frame of a bar, black where the node fires.
+/// The frame of a bar, black if the node fires.
 fn rim(is_fired: bool) -> &'static [u8]
     ensures { result.now ≡ rim is_fired }
 {
@@ -61,7 +61,7 @@ fn rim(is_fired: bool) -> &'static [u8]
 /// Draws a bar below a cell, half as wide.
 fn put_bar<'a, K: Sink>(
     sink: &mut K,
-    spot: Spot,
+    spot: CellPosition,
     x: u64,
     fill: &'a [u8],
     frame: &'a [u8],
@@ -85,7 +85,11 @@ fn put_bar<'a, K: Sink>(
 }
 
 /// Draws the bar of the left half.
-fn put_left_bar<K: Sink>(sink: &mut K, spot: Spot, hearing: Hearing) -> Result<(), WriteFault>
+fn put_left_bar<K: Sink>(
+    sink: &mut K,
+    spot: CellPosition,
+    hearing: Hearing,
+) -> Result<(), WriteFault>
     ensures { Puts result (left_bar spot hearing) (K.told sink.old) (K.told sink.new) }
 {
     let fill = tint(Half::Left, hearing.left.grade);
@@ -94,7 +98,11 @@ fn put_left_bar<K: Sink>(sink: &mut K, spot: Spot, hearing: Hearing) -> Result<(
 }
 
 /// Draws the bar of the right half.
-fn put_right_bar<K: Sink>(sink: &mut K, spot: Spot, hearing: Hearing) -> Result<(), WriteFault>
+fn put_right_bar<K: Sink>(
+    sink: &mut K,
+    spot: CellPosition,
+    hearing: Hearing,
+) -> Result<(), WriteFault>
     ensures { Puts result (right_bar spot hearing) (K.told sink.old) (K.told sink.new) }
 {
     let fill = tint(Half::Right, hearing.right.grade);
@@ -103,7 +111,11 @@ fn put_right_bar<K: Sink>(sink: &mut K, spot: Spot, hearing: Hearing) -> Result<
 }
 
 /// Draws both bars.
-fn put_both_bars<K: Sink>(sink: &mut K, spot: Spot, hearing: Hearing) -> Result<(), WriteFault>
+fn put_both_bars<K: Sink>(
+    sink: &mut K,
+    spot: CellPosition,
+    hearing: Hearing,
+) -> Result<(), WriteFault>
     ensures { Puts result (both_bars spot hearing) (K.told sink.old) (K.told sink.new) }
 {
     written!(put_left_bar(sink, spot, hearing));
@@ -111,7 +123,11 @@ fn put_both_bars<K: Sink>(sink: &mut K, spot: Spot, hearing: Hearing) -> Result<
 }
 
 /// Draws both bars, if the node hears something.
-fn put_bars<K: Sink>(sink: &mut K, spot: Spot, hearing: Option<Hearing>) -> Result<(), WriteFault>
+fn put_bars<K: Sink>(
+    sink: &mut K,
+    spot: CellPosition,
+    hearing: Option<Hearing>,
+) -> Result<(), WriteFault>
     ensures { Puts result (bars spot hearing) (K.told sink.old) (K.told sink.new) }
 {
     match hearing {
@@ -120,8 +136,13 @@ fn put_bars<K: Sink>(sink: &mut K, spot: Spot, hearing: Option<Hearing>) -> Resu
     }
 }
 
-/// Draws a dot where the node itself saw a pulse.
-fn put_dot_at<K: Sink>(sink: &mut K, spot: Spot, x: u64, saw: bool) -> Result<(), WriteFault>
+/// Draws a dot if the node itself saw a pulse.
+fn put_dot_at<K: Sink>(
+    sink: &mut K,
+    spot: CellPosition,
+    x: u64,
+    saw: bool,
+) -> Result<(), WriteFault>
     ensures { Puts result (dot_at spot x saw) (K.told sink.old) (K.told sink.new) }
 {
     match saw {
@@ -140,14 +161,14 @@ fn put_dot_at<K: Sink>(sink: &mut K, spot: Spot, x: u64, saw: bool) -> Result<()
 }
 
 /// Draws the dot of the left half.
-fn put_left_dot<K: Sink>(sink: &mut K, spot: Spot, saw: bool) -> Result<(), WriteFault>
+fn put_left_dot<K: Sink>(sink: &mut K, spot: CellPosition, saw: bool) -> Result<(), WriteFault>
     ensures { Puts result (left_dot spot saw) (K.told sink.old) (K.told sink.new) }
 {
     put_dot_at(sink, spot, left(spot) + width(spot) / 4, saw)
 }
 
 /// Draws the dot of the right half.
-fn put_right_dot<K: Sink>(sink: &mut K, spot: Spot, saw: bool) -> Result<(), WriteFault>
+fn put_right_dot<K: Sink>(sink: &mut K, spot: CellPosition, saw: bool) -> Result<(), WriteFault>
     ensures { Puts result (right_dot spot saw) (K.told sink.old) (K.told sink.new) }
 {
     put_dot_at(sink, spot, left(spot) + width(spot) * 3 / 4, saw)
@@ -156,7 +177,7 @@ fn put_right_dot<K: Sink>(sink: &mut K, spot: Spot, saw: bool) -> Result<(), Wri
 /// Draws what a node knows of the pulses of both halves.
 pub fn put_member_pulses<K: Sink>(
     sink: &mut K,
-    spot: Spot,
+    spot: CellPosition,
     member: Member,
 ) -> Result<(), WriteFault>
     ensures { Puts result (member_pulses spot member) (K.told sink.old) (K.told sink.new) }

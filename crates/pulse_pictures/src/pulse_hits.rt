@@ -24,7 +24,7 @@ struct Past {
     is_known: bool,
 }
 
-/// The place of the node of the next line, where `place` is that of the line before.
+/// The place of the node of the next line, if `place` is that of the line before.
 fn place_of(note: &PulseNote, place: usize) -> usize {
     match note.told {
         Told::Shows(_) if note.is_first => 0,
@@ -83,7 +83,7 @@ fn mark_notes(trace: &mut PulseTrace, pasts: &mut Vec<Past>) -> Result<(), Chart
     Ok(())
 }
 
-/// Marks the outputs that stand for no value, as the lines behind them say.
+/// Marks the outputs that stand for no value, as the lines after them say.
 fn mark_lost(notes: &mut [PulseNote]) {
     let mut later = None;
     for note in notes.iter_mut().rev() {

@@ -1,10 +1,10 @@
-//! Whether the lines, the kings' turns and the groups of a trace of a pulse plan stand where they
+//! Whether the lines, the kings' phases and the groups of a trace of a pulse plan stand where they
 //! belong.
 
 ghost use Rattle.std.specs.Prelude.{◌≡◌, ◌≤◌, ◌<◌, ◌+◌, ◌*◌, ◌^◌, ℕ, All, AllPairs, true};
 ghost use Rattle.std.specs.Prelude.{IfSome, length, slice_index_or};
 ghost use Rattle.std.specs.List.{count_by};
-ghost use Rattle.pulse_pictures.specs.declared.pulse_notes.Stand.{Stand};
+ghost use Rattle.pulse_pictures.specs.declared.pulse_notes.GroupInstruction.{GroupInstruction};
 ghost use Rattle.pulse_pictures.specs.PulseLaid.{AreApart, AreLinesLaid, AreStacked};
 ghost use Rattle.pulse_pictures.specs.PulseLaid.{AreStackedBelow, HasRoom, HasStand};
 ghost use Rattle.pulse_pictures.specs.PulseLaid.{HasStandOf};
@@ -12,7 +12,7 @@ ghost use Rattle.pulse_pictures.specs.PulseLaid.{IsAtHeight, IsHeadingLaid, IsLi
 ghost use Rattle.pulse_pictures.specs.PulseLaid.{IsPulseTraceLaid, IsStandLaid, IsStandOf};
 ghost use Rattle.pulse_pictures.specs.PulseLaid.{IsStripOf, StandsInStrip, is_later, shows};
 
-use crate::pulse_notes::{Heading, Member, PulseNote, PulseTrace, Stand, Strip, Told};
+use crate::pulse_notes::{GroupInstruction, Heading, Member, PulseNote, PulseTrace, Strip, Told};
 use crate::pulse_said::is_pulse_trace_said;
 use picture_parts::{MOST_COLUMNS, line_top};
 use trace_pictures::{has_id, ids_rise};
@@ -76,8 +76,8 @@ fn is_at_height(strips: &[Strip], place: u64, note: PulseNote) -> bool
     }
 }
 
-/// Whether a line is on the node whose turn it is, and stands in its column and line, where so many
-/// outputs were shown before that of its node.
+/// Whether a line is on the node that is due, and stands in its column and line, if so many outputs
+/// were shown before that of its node.
 fn is_note_laid(strips: &[Strip], nodes: u16, ids: &[u64], before: u64, note: PulseNote) -> bool
     requires { 1 ≤ nodes }
     ensures { result ≡ true → IsNoteLaid strips.now nodes ids.now before note }
@@ -108,8 +108,8 @@ fn outputs_laid(strips: &[Strip], nodes: u16, ids: &[u64], notes: &[PulseNote]) 
     Some(shown)
 }
 
-/// The place of the first turn of a column, or of a later one.
-fn first_stand(stands: &[Stand], column: u32) -> usize {
+/// The place of the first phase of a column, or of a later one.
+fn first_stand(stands: &[GroupInstruction], column: u32) -> usize {
     let mut low = 0;
     let mut high = stands.len();
     for _ in 0..32 {
@@ -126,8 +126,8 @@ fn first_stand(stands: &[Stand], column: u32) -> usize {
     low
 }
 
-/// Whether a turn is that of a group at an instruction.
-fn is_stand_of(stand: Stand, column: u32, member: Member, instruction: u32) -> bool
+/// Whether a phase is that of a group at an instruction.
+fn is_stand_of(stand: GroupInstruction, column: u32, member: Member, instruction: u32) -> bool
     ensures { result ≡ true → IsStandOf column member instruction stand }
 {
     stand.column == column
@@ -136,8 +136,8 @@ fn is_stand_of(stand: Stand, column: u32, member: Member, instruction: u32) -> b
         && stand.instruction == instruction
 }
 
-/// Whether such a turn is drawn.
-fn has_stand_of(stands: &[Stand], column: u32, member: Member, instruction: u32) -> bool
+/// Whether such a phase is drawn.
+fn has_stand_of(stands: &[GroupInstruction], column: u32, member: Member, instruction: u32) -> bool
     ensures { result ≡ true → HasStandOf stands.now column member instruction }
 {
     for k in first_stand(stands, column)..stands.len() {
@@ -151,8 +151,8 @@ fn has_stand_of(stands: &[Stand], column: u32, member: Member, instruction: u32)
     false
 }
 
-/// Whether the turn that a line says is drawn, if a correct node has it.
-fn has_stand(stands: &[Stand], note: PulseNote) -> bool
+/// Whether the phase that a line says is drawn, if a correct node has it.
+fn has_stand(stands: &[GroupInstruction], note: PulseNote) -> bool
     ensures { result ≡ true → HasStand stands.now note }
 {
     if note.is_faulty {
@@ -167,8 +167,8 @@ fn has_stand(stands: &[Stand], note: PulseNote) -> bool
     }
 }
 
-/// Whether all turns that correct nodes have are drawn.
-fn have_stands(stands: &[Stand], notes: &[PulseNote]) -> bool
+/// Whether all phases that correct nodes have are drawn.
+fn have_stands(stands: &[GroupInstruction], notes: &[PulseNote]) -> bool
     ensures { result ≡ true → All (HasStand stands.now) notes.now }
 {
     for k in 0..notes.len() {
@@ -179,8 +179,8 @@ fn have_stands(stands: &[Stand], notes: &[PulseNote]) -> bool
     true
 }
 
-/// Whether a turn stands above the cells of its group.
-fn is_stand_laid(strips: &[Strip], stand: Stand) -> bool
+/// Whether a phase stands above the cells of its group.
+fn is_stand_laid(strips: &[Strip], stand: GroupInstruction) -> bool
     ensures { result ≡ true → IsStandLaid strips.now stand }
 {
     match strip_of(strips, stand.first, stand.last) {
@@ -191,8 +191,8 @@ fn is_stand_laid(strips: &[Strip], stand: Stand) -> bool
     }
 }
 
-/// Whether all turns do.
-fn are_stands_laid(strips: &[Strip], stands: &[Stand]) -> bool
+/// Whether all phases do.
+fn are_stands_laid(strips: &[Strip], stands: &[GroupInstruction]) -> bool
     ensures { result ≡ true → All (IsStandLaid strips.now) stands.now }
 {
     for k in 0..stands.len() {
@@ -203,8 +203,8 @@ fn are_stands_laid(strips: &[Strip], stands: &[Stand]) -> bool
     true
 }
 
-/// Whether a turn stands above a later one, if both are of one column and group.
-fn is_above(turn: Stand, later: Stand) -> bool
+/// Whether a phase stands above a later one, if both are of one column and group.
+fn is_above(turn: GroupInstruction, later: GroupInstruction) -> bool
     ensures { result ≡ true → AreApart turn later }
 {
     turn.column != later.column
@@ -213,10 +213,10 @@ fn is_above(turn: Stand, later: Stand) -> bool
         || u64::from(turn.top) + 16 <= u64::from(later.top)
 }
 
-/// Whether the turns of these places do.
-fn are_above(stands: &[Stand], from: usize, to: usize, later: Stand) -> bool
+/// Whether the phases of these places do.
+fn are_above(stands: &[GroupInstruction], from: usize, to: usize, later: GroupInstruction) -> bool
     requires { to ≤ length stands.now }
-    ensures { result ≡ true → (i : ℕ) (d : Stand) → from ≤ i → i < to
+    ensures { result ≡ true → (i : ℕ) (d : GroupInstruction) → from ≤ i → i < to
         → AreApart (slice_index_or stands.now i d) later }
 {
     for i in from..to {
@@ -227,8 +227,8 @@ fn are_above(stands: &[Stand], from: usize, to: usize, later: Stand) -> bool
     true
 }
 
-/// Whether no turn covers another one. Columns rise.
-fn are_apart(stands: &[Stand]) -> bool
+/// Whether no phase covers another one. Columns rise.
+fn are_apart(stands: &[GroupInstruction]) -> bool
     ensures { result ≡ true → AllPairs AreApart stands.now }
 {
     let mut column = 0;
@@ -249,7 +249,7 @@ fn are_apart(stands: &[Stand]) -> bool
     true
 }
 
-/// Whether words stand before the strip of their group, at the front of a band.
+/// Whether words stand before the strip of their group, at the beginning of a band.
 fn is_heading_laid(strips: &[Strip], heading: Heading) -> bool
     ensures { result ≡ true → IsHeadingLaid strips.now heading }
 {
@@ -285,7 +285,7 @@ fn end_of(strip: Strip) -> u64
     u64::from(strip.cells) + 28 * u64::from(strip.nodes)
 }
 
-/// Whether a strip has room for a row of turns, from a height on.
+/// Whether a strip has room for a row of phases, from a height on.
 fn has_room(from: u64, strip: Strip) -> bool
     ensures { result ≡ true → HasRoom from strip }
 {
@@ -320,7 +320,7 @@ fn are_stacked(from: u64, strips: &[Strip], end: u32) -> bool
     }
 }
 
-/// Whether the lines, the turns and the groups of a trace stand where they belong.
+/// Whether the lines, the phases and the groups of a trace stand where they belong.
 pub fn is_pulse_trace_laid(trace: &PulseTrace) -> bool
     ensures { result ≡ true → IsPulseTraceLaid trace.now }
 {

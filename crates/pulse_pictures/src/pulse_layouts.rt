@@ -1,9 +1,9 @@
 //! Lays out a trace of a pulse plan: below the outputs a strip for each group, with the kings'
-//! turns above it.
+//! phases above it.
 
 use crate::pulse_hits::mark_pulse_trace;
 use crate::pulse_laid::strip_of;
-use crate::pulse_notes::{Heading, Member, PulseNote, PulseTrace, Stand, Strip, Told};
+use crate::pulse_notes::{GroupInstruction, Heading, Member, PulseNote, PulseTrace, Strip, Told};
 use crate::pulse_reading::read_pulse_trace;
 use picture_parts::{ChartError, MOST_COLUMNS, line_top};
 use std::alloc::{AllocFailed, Global};
@@ -31,18 +31,18 @@ fn count_nodes(trace: &mut PulseTrace) {
     }
 }
 
-/// Whether two turns are of one group.
-fn are_of_one_group(stand: Stand, other: Stand) -> bool {
+/// Whether two phases are of one group.
+fn are_of_one_group(stand: GroupInstruction, other: GroupInstruction) -> bool {
     stand.first == other.first && stand.last == other.last
 }
 
-/// Adds a turn to those of its column, which stand from place `from` on, if it is not there.
-/// Answers how many of its group there are then.
+/// Adds a phase to those of its column, which stand from place `from` on, if it is not there.
+/// Answers how many of its group there are then, or 0 if it was there.
 fn add_stand(
-    stands: &mut Vec<Stand>,
+    stands: &mut Vec<GroupInstruction>,
     from: usize,
-    mut new: Stand,
-) -> Result<u32, AllocFailed<Stand>> {
+    mut new: GroupInstruction,
+) -> Result<u32, AllocFailed<GroupInstruction>> {
     for i in from..stands.len() {
         let old = stands[i];
         if are_of_one_group(old, new) {
@@ -56,8 +56,8 @@ fn add_stand(
     Ok(new.lane.saturating_add(1))
 }
 
-/// The turn of a line, if a correct node has one there.
-fn stand_in(note: &PulseNote) -> Option<Stand> {
+/// The phase of a line, if a correct node has one there.
+fn stand_in(note: &PulseNote) -> Option<GroupInstruction> {
     if note.is_faulty {
         return None;
     }
@@ -65,7 +65,7 @@ fn stand_in(note: &PulseNote) -> Option<Stand> {
         Told::Shows(_) => None,
         Told::Holds(member) => match member.instruction {
             None => None,
-            Some(instruction) => Some(Stand {
+            Some(instruction) => Some(GroupInstruction {
                 column: note.column,
                 first: member.first,
                 last: member.last,
@@ -78,8 +78,8 @@ fn stand_in(note: &PulseNote) -> Option<Stand> {
     }
 }
 
-/// Gives the strip of a turn's group room for so many turns in a column.
-fn widen(strips: &mut [Strip], stand: Stand, lanes: u32) {
+/// Gives the strip of a phase's group room for so many phases in a column.
+fn widen(strips: &mut [Strip], stand: GroupInstruction, lanes: u32) {
     for strip in strips.iter_mut() {
         if strip.first == stand.first && strip.last == stand.last {
             strip.lanes = strip.lanes.max(lanes);
@@ -102,9 +102,9 @@ fn find_stands(trace: &mut PulseTrace) -> Result<(), ChartError> {
     Ok(())
 }
 
-/// Says of the turns of a group in a column, from place `from` on, which ones a node of it does not
-/// have that is correct: it stands at another one, or waits.
-fn part(stands: &mut Vec<Stand>, from: usize, column: u32, member: &Member) {
+/// Says of the phases of a group in a column, from place `from` on, which ones a correct node of it
+/// does not have: it stands at another one, or waits.
+fn part(stands: &mut Vec<GroupInstruction>, from: usize, column: u32, member: &Member) {
     for i in from..stands.len() {
         let stand = stands[i];
         if stand.column > column {
@@ -119,8 +119,8 @@ fn part(stands: &mut Vec<Stand>, from: usize, column: u32, member: &Member) {
     }
 }
 
-/// The place of the first turn of a column, or of a later one, from a place on.
-fn next_stand(stands: &[Stand], from: usize, column: u32) -> usize {
+/// The place of the first phase of a column, or of a later one, from a place on.
+fn next_stand(stands: &[GroupInstruction], from: usize, column: u32) -> usize {
     for i in from..stands.len() {
         if stands[i].column >= column {
             return i;
@@ -129,7 +129,7 @@ fn next_stand(stands: &[Stand], from: usize, column: u32) -> usize {
     stands.len()
 }
 
-/// Says of each turn whether all correct nodes of its group have it.
+/// Says of each phase whether all correct nodes of its group have it.
 fn part_all(trace: &mut PulseTrace) {
     let mut from = 0;
     for note in trace.notes.iter() {
@@ -185,7 +185,7 @@ fn next_place(place: u16) -> u16 {
     place.saturating_add(1)
 }
 
-/// Gives each turn its place.
+/// Gives each phase its place.
 fn place_stands(trace: &mut PulseTrace) {
     for stand in trace.stands.iter_mut() {
         if let Some(strip) = strip_of(&trace.strips, stand.first, stand.last) {

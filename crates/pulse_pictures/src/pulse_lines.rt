@@ -36,13 +36,13 @@ fn is_first_of(reader: &mut Reader<'_>, one: &[u8], other: &[u8]) -> bool {
     word == one
 }
 
-/// Whether a half's pulse was seen, behind the word for the half.
+/// Whether a half's pulse was seen, after the word for the half.
 fn saw(reader: &mut Reader<'_>, half: &[u8]) -> bool {
     reader.pass(half);
     is_first_of(reader, b"seen", b"unseen")
 }
 
-/// Which half began the instructions, behind the word `began`.
+/// Which half began the instructions, after the word `began`.
 fn began(reader: &mut Reader<'_>) -> Half {
     reader.pass(b"began");
     match is_first_of(reader, b"left", b"right") {
@@ -64,7 +64,7 @@ fn grade(reader: &mut Reader<'_>) -> Grade {
     Grade::Few
 }
 
-/// What is heard of a pulse, behind the word for its half.
+/// What is heard of a pulse, after the word for its half.
 fn pulse(reader: &mut Reader<'_>) -> Pulse {
     Pulse {
         said: reader.number_after(b"said"),
@@ -72,7 +72,7 @@ fn pulse(reader: &mut Reader<'_>) -> Pulse {
     }
 }
 
-/// For which halves a node fires, behind the word `fires`.
+/// For which halves a node fires, after the word `fires`.
 fn fires(reader: &mut Reader<'_>) -> Fires {
     reader.pass(b"fires");
     let word = reader.word();
@@ -89,7 +89,7 @@ fn fires(reader: &mut Reader<'_>) -> Fires {
     Fires::Neither
 }
 
-/// What a node hears, behind the word `left`.
+/// What a node hears, after the word `left`.
 fn hearing(reader: &mut Reader<'_>) -> Hearing {
     let left = pulse(reader);
     reader.pass(b"right");
@@ -113,8 +113,8 @@ fn hearing_or_nothing(reader: &mut Reader<'_>) -> Option<Hearing> {
     }
 }
 
-/// Which instruction comes in a group whose first node has this id: its kind and its king are
-/// those of its number. None where the node waits.
+/// Which instruction comes in a group whose first node has this id: its kind and its king are those
+/// of its number. None if the node waits.
 fn instruction(reader: &mut Reader<'_>, first: u32) -> Option<u32> {
     let word = reader.word();
     if word == b"waits".as_slice() {
@@ -129,7 +129,7 @@ fn instruction(reader: &mut Reader<'_>, first: u32) -> Option<u32> {
     Some(instruction)
 }
 
-/// What a node holds in a group, behind the word `group`.
+/// What a node holds in a group, after the word `group`.
 fn member(reader: &mut Reader<'_>) -> Member {
     let first = reader.small_number();
     let last = reader.small_number();

@@ -55,7 +55,7 @@ pub struct Member {
     pub last: u32,
     pub value: Option<u64>,
     pub held: Held,
-    /// Which instruction comes, or None where the node waits.
+    /// Which instruction comes, or None if the node waits.
     pub instruction: Option<u32>,
     /// The half that began its instructions.
     pub began: Half,
@@ -92,7 +92,7 @@ pub struct PulseNote {
 
 /// An instruction at which correct nodes of a group stand.
 #[derive(Clone, Copy)]
-pub struct Stand {
+pub struct GroupInstruction {
     pub column: u32,
     /// The first node of the group.
     pub first: u32,
@@ -129,9 +129,9 @@ pub struct Strip {
     pub before: u32,
     /// How many traced nodes the group has.
     pub nodes: u32,
-    /// How many kings' turns stand in one column at most.
+    /// How many kings' phases stand in one column at most.
     pub lanes: u32,
-    /// The top of its kings' turns, in each band.
+    /// The top of its kings' phases, in each band.
     pub top: u32,
     /// The top of its cells, in each band.
     pub cells: u32,
@@ -147,14 +147,14 @@ pub struct PulseTrace {
     pub cells: u32,
     /// The lines.
     pub notes: Vec<PulseNote>,
-    pub stands: Vec<Stand>,
+    pub stands: Vec<GroupInstruction>,
     pub headings: Vec<Heading>,
     pub strips: Vec<Strip>,
     /// The columns where an era must begin.
     pub eras: Vec<u32>,
 }
 
-// Written out, so that what lets go of one calls this, and no more.
+// Written out, so that code that drops one has a single call.
 impl Drop for PulseTrace {
     fn drop(self) {
         let PulseTrace {
@@ -185,8 +185,8 @@ impl PulseTrace {
         &self.notes
     }
 
-    /// The kings' turns.
-    pub fn turns(&self) -> &[Stand]
+    /// The kings' phases.
+    pub fn turns(&self) -> &[GroupInstruction]
         ensures { result.now ≡ self.now.stands.items }
     {
         &self.stands

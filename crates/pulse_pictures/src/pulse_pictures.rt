@@ -8,14 +8,14 @@ ghost use Rattle.pulse_pictures.specs.PulsePictures.{pulse_picture_front, regist
 use crate::members::{put_headings, put_pulse_notes};
 use crate::pulse_notes::PulseTrace;
 use crate::pulse_turns::put_stands;
-use edge_io::{Gathered, Piece, Sink, WriteFault, put_all, put_pieces};
+use edge_io::{Piece, Sink, WriteFault, Writer, put_all, put_pieces};
 use picture_parts::{
     Frame, bottom, picture_width, put_colour_legend, put_front, put_ground, put_number_caption,
     put_span,
 };
 use trace_pictures::{put_dots, put_starts};
 
-/// Writes what the registers and the kings' turns mean.
+/// Writes what the registers and the kings' phases mean.
 fn put_register_legend<K: Sink>(sink: &mut K, y: u64) -> Result<(), WriteFault>
     ensures { Puts result (register_legend y) (K.told sink.old) (K.told sink.new) }
 {
@@ -111,7 +111,7 @@ fn put_pulse_facts<K: Sink>(sink: &mut K, trace: &PulseTrace) -> Result<(), Writ
     put_pulse_facts_in(sink, trace.frame, u64::from(trace.nodes), groups)
 }
 
-/// Writes the front, with the picture's width and height.
+/// Writes the beginning, with the picture's width and height.
 fn put_pulse_picture_front<K: Sink>(sink: &mut K, frame: Frame) -> Result<(), WriteFault>
     ensures { Puts result (pulse_picture_front frame) (K.told sink.old) (K.told sink.new) }
 {
@@ -145,7 +145,7 @@ fn put_pulse_parts<K: Sink>(sink: &mut K, trace: &PulseTrace) -> Result<(), Writ
 pub fn put_pulse_picture<K: Sink>(sink: &mut K, trace: &PulseTrace) -> Result<(), WriteFault>
     ensures { Puts result (pulse_picture trace.now) (K.told sink.old) (K.told sink.new) }
 {
-    let mut parts = Gathered::new(sink);
+    let mut parts = Writer::gathering(sink);
     let written = put_pulse_parts(&mut parts, trace);
-    parts.finish(written)
+    parts.finish_with(written)
 }

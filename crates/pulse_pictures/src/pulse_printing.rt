@@ -13,7 +13,7 @@ use crate::pulse_notes::{Fires, Grade, Half, Hearing, Member, PulseNote, Told};
 use edge_io::{Piece, Sink, WriteFault, put_all, put_pieces};
 use trace_pictures::{Turn, faulty_word, held_word, put_number_or_none, put_output, turn_word};
 
-/// Which of its three instructions a king's turn has come to.
+/// Which of its three instructions a king's phase has come to.
 pub fn turn_of(instruction: u32) -> Turn
     ensures { result ≡ turn_of instruction }
 {

@@ -8,7 +8,7 @@ use picture_parts::{ChartError, Frame, Wanted, digits_of};
 use std::alloc::Global;
 use trace_pictures::{MOST_NODES, TraceFault, length_of};
 
-/// A trace of which the front was read.
+/// A trace of which the beginning was read.
 #[derive(Drop)]
 struct Draft {
     trace: PulseTrace,
@@ -16,7 +16,7 @@ struct Draft {
     width: usize,
     /// The place of the last line in its configuration.
     place: usize,
-    /// The group of the last line, or None where it is about the node's state.
+    /// The group of the last line, or None if it is about the node's state.
     group: Option<Strip>,
     /// How many digits the longest number to be drawn has.
     digits: u16,
@@ -30,8 +30,8 @@ fn is_of_group(line: &[u8]) -> bool {
     }
 }
 
-/// Whether a text begins with two lines of a trace of a pulse plan: of the state of a node, and of
-/// its first group. The first one alone may be one of any trace.
+/// Whether a text begins with two lines of a trace of a pulse plan, the second one about a group.
+/// The first one alone may be one of any trace.
 pub fn is_pulse_trace(text: &[u8]) -> bool {
     if text.is_empty() {
         return false;
@@ -59,7 +59,7 @@ fn add_node(draft: &mut Draft, node: u64) -> Result<(), TraceFault> {
     Ok(())
 }
 
-/// Whether a group may be that of a node, behind the group of the line before: the first one is the
+/// Whether a group may be that of a node, after the group of the line before: the first one is the
 /// whole, and each further one is a part of the one before it.
 fn may_follow(whole: Option<&Strip>, before: Option<Strip>, strip: Strip) -> bool {
     match before {
@@ -276,7 +276,7 @@ fn take_bytes(draft: &mut Draft, bytes: &[u8]) -> Result<(), TraceFault> {
 }
 
 /// Reads a trace. The error is the first line that is not what should stand there, which is the
-/// line after the last where one is missing; or want of memory.
+/// line after the last if one is missing; or want of memory.
 pub fn read_pulse_trace(alloc: Global, text: &[u8]) -> Result<PulseTrace, ChartError> {
     let mut draft = Draft {
         trace: empty(alloc),

@@ -1,5 +1,5 @@
 //! Whether the lines of a trace of a pulse plan say what is drawn of it: which outputs stand for no
-//! value, which turns correct nodes have, and which groups there are.
+//! value, which phases correct nodes have, and which groups there are.
 
 ghost use Rattle.std.specs.Prelude.{◌≡◌, All, true};
 ghost use Rattle.picture_parts.specs.Moduli.{HasOutput, IsBelow, IsModulusOf};
@@ -63,8 +63,7 @@ pub fn value_told(told: Told) -> Option<Option<u64>>
     }
 }
 
-/// Whether a line shows an output that stands for no value, where this is what the line behind it
-/// says.
+/// Whether a line shows an output that stands for no value, if this is what the line after it says.
 pub fn is_lost_before(told: Told, later: Option<Option<u64>>) -> bool
     ensures { result ≡ is_lost_before told later }
 {

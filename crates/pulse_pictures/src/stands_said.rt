@@ -1,4 +1,4 @@
-//! Whether the turns that are drawn are those of correct nodes, and in which frames.
+//! Whether the phases that are drawn are those of correct nodes, and in which frames.
 
 ghost use Rattle.std.specs.Prelude.{◌≡◌, All, true};
 ghost use Rattle.trace_pictures.specs.TraceSaid.{is_other};
@@ -6,7 +6,7 @@ ghost use Rattle.pulse_pictures.specs.PulseSaid.{ColumnsRise, HasStander, IsBefo
 ghost use Rattle.pulse_pictures.specs.PulseSaid.{IsSharedByAll, IsStandSaid, is_at, member_as};
 ghost use Rattle.pulse_pictures.specs.PulseSaid.{stands, told_as};
 
-use crate::pulse_notes::{Member, PulseNote, Stand, Told};
+use crate::pulse_notes::{GroupInstruction, Member, PulseNote, Told};
 
 /// Whether no line stands in a column before that of the line before it.
 pub fn columns_rise(notes: &[PulseNote]) -> bool
@@ -33,8 +33,8 @@ fn is_at(instruction: u32, other: Option<u32>) -> bool
     }
 }
 
-/// Whether a node stands at a turn's instruction, where it is what it holds in the turn's group.
-fn member_as(stand: Stand, member: Member) -> Option<bool>
+/// Whether a node stands at a phase's instruction, if what it holds is in the phase's group.
+fn member_as(stand: GroupInstruction, member: Member) -> Option<bool>
     ensures { result ≡ member_as stand member }
 {
     if member.first == stand.first && member.last == stand.last {
@@ -45,7 +45,7 @@ fn member_as(stand: Stand, member: Member) -> Option<bool>
 }
 
 /// The same of what a line is about.
-fn told_as(stand: Stand, told: Told) -> Option<bool>
+fn told_as(stand: GroupInstruction, told: Told) -> Option<bool>
     ensures { result ≡ told_as stand told }
 {
     match told {
@@ -54,9 +54,9 @@ fn told_as(stand: Stand, told: Told) -> Option<bool>
     }
 }
 
-/// Where a line is on what a correct node holds in a turn's column and group: whether it stands at
-/// the turn's instruction.
-fn stands(stand: Stand, note: PulseNote) -> Option<bool>
+/// If a line is on what a correct node holds in a phase's column and group: whether it stands at
+/// the phase's instruction.
+fn stands(stand: GroupInstruction, note: PulseNote) -> Option<bool>
     ensures { result ≡ stands stand note }
 {
     if note.column == stand.column && !note.is_faulty {
@@ -84,8 +84,8 @@ fn first_line(notes: &[PulseNote], column: u32) -> usize {
     low
 }
 
-/// Whether some line says so of a turn.
-fn has_stander(stand: Stand, notes: &[PulseNote], same: bool) -> bool
+/// Whether some line says so of a phase.
+fn has_stander(stand: GroupInstruction, notes: &[PulseNote], same: bool) -> bool
     ensures { result ≡ true → HasStander stand notes.now same }
 {
     for k in first_line(notes, stand.column)..notes.len() {
@@ -101,7 +101,7 @@ fn has_stander(stand: Stand, notes: &[PulseNote], same: bool) -> bool
     false
 }
 
-/// Whether the lines before a place stand in earlier columns, where columns rise.
+/// Whether the lines before a place stand in earlier columns, if columns rise.
 fn starts_at(column: u32, from: usize, notes: &[PulseNote]) -> bool
     requires { ColumnsRise notes.now }
     ensures { result ≡ true → IsBefore column from notes.now }
@@ -115,8 +115,8 @@ fn starts_at(column: u32, from: usize, notes: &[PulseNote]) -> bool
     notes[from - 1].column < column
 }
 
-/// Whether a line says that a correct node of a turn's group does not have the turn.
-fn stands_elsewhere(stand: Stand, note: PulseNote) -> bool
+/// Whether a line says that a correct node of a phase's group does not have the phase.
+fn stands_elsewhere(stand: GroupInstruction, note: PulseNote) -> bool
     ensures { result ≡ is_other (stands stand note) }
 {
     match stands(stand, note) {
@@ -126,8 +126,8 @@ fn stands_elsewhere(stand: Stand, note: PulseNote) -> bool
     }
 }
 
-/// Whether no line says so, where columns rise, and lines before a place stand in earlier columns.
-fn is_shared_from(stand: Stand, notes: &[PulseNote], from: usize) -> bool
+/// Whether no line says so, if columns rise, and lines before a place stand in earlier columns.
+fn is_shared_from(stand: GroupInstruction, notes: &[PulseNote], from: usize) -> bool
     requires rise { ColumnsRise notes.now }
     requires before { IsBefore stand.column from notes.now }
     ensures { result ≡ true → IsSharedByAll stand notes.now }
@@ -144,8 +144,8 @@ fn is_shared_from(stand: Stand, notes: &[PulseNote], from: usize) -> bool
     true
 }
 
-/// Whether no line says so, where columns rise.
-fn is_shared_by_all(stand: Stand, notes: &[PulseNote]) -> bool
+/// Whether no line says so, if columns rise.
+fn is_shared_by_all(stand: GroupInstruction, notes: &[PulseNote]) -> bool
     requires { ColumnsRise notes.now }
     ensures { result ≡ true → IsSharedByAll stand notes.now }
 {
@@ -153,8 +153,8 @@ fn is_shared_by_all(stand: Stand, notes: &[PulseNote]) -> bool
     starts_at(stand.column, from, notes) && is_shared_from(stand, notes, from)
 }
 
-/// Whether a turn's frame is whole where all have it, and else broken, where columns rise.
-fn is_framed(stand: Stand, notes: &[PulseNote], is_common: bool) -> bool
+/// If columns rise: whether a phase's frame is whole if all have it, and else broken.
+fn is_framed(stand: GroupInstruction, notes: &[PulseNote], is_common: bool) -> bool
     requires { ColumnsRise notes.now }
     ensures { result ≡ true → IsFramed stand notes.now is_common }
 {
@@ -164,8 +164,8 @@ fn is_framed(stand: Stand, notes: &[PulseNote], is_common: bool) -> bool
     }
 }
 
-/// Whether some correct node has each turn, and all turns have their frames, where columns rise.
-pub fn are_stands_said(notes: &[PulseNote], stands: &[Stand]) -> bool
+/// Whether some correct node has each phase, and all phases have their frames, if columns rise.
+pub fn are_stands_said(notes: &[PulseNote], stands: &[GroupInstruction]) -> bool
     requires { ColumnsRise notes.now }
     ensures { result ≡ true → All (IsStandSaid notes.now) stands.now }
 {

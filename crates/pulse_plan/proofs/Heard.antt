@@ -74,7 +74,7 @@ module _ (first n f : ℕ) (faulty : ℕ → Bool) (quorum : 3 * f < n)
   shown : count_by (eqb 0) heard ≡ places shows_at n
   shown = count_by_places (eqb 0) heard 0 ∙ ap (places shows_at) h.size
 
-  -- where a sound half shows 0 each node sees it
+  -- if a sound half shows 0, each node sees it
   pub sees_zero : output ≡ 0 → sees n f heard ≡ true
   sees_zero e = le-leb (n - f) (count_by (eqb 0) heard) (omega (
     arith,
@@ -85,7 +85,7 @@ module _ (first n f : ℕ) (faulty : ℕ → Bool) (quorum : 3 * f < n)
         (cases_Bool (faulty (first + i)))),
   ))
 
-  -- and where it does not none does
+  -- and if it does not, none does
   pub sees_no_other : sees n f heard ≡ true → output ≡ 0
   sees_no_other e = ⊎_elim (λ z. z)
       (λ ne. absurd (omega (

@@ -58,7 +58,7 @@ sees_left : step resting 0 4 (replicate 4 resting)
     }
 sees_left = refl
 
--- where the node waits it stays so, and so does the greatest age
+-- if the node waits, it stays so, and so does the greatest age
 abbrev waiting : LevelState
 waiting = record resting { instruction = 6; begun_by_left = false; age = 17 }
 

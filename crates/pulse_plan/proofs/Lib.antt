@@ -1,3 +1,12 @@
+pub mod FewBits
+pub mod Kept
+pub mod Made
+pub mod Alike
+pub mod Lists
+pub mod Stretches
+pub mod PulseMachineWritten
+pub mod Depths
+pub mod PulseMachineHeard
 pub mod Numbers
 pub mod LevelStates
 pub mod Ranges
@@ -7,7 +16,7 @@ pub mod Locked
 pub mod Apart
 pub mod Pulses
 pub mod Windows
-pub mod Kings
+pub mod KingPhases
 pub mod Rounds
 pub mod Origins
 pub mod Harms

@@ -65,9 +65,6 @@ nodes_of_halving (suc f) spares some =
       nodes_within f (f - (f + 1) / 3) (omega arith),
     )
 
-pub no_faults_are_one : (spares : ℕ) → halving_of 0 spares ≡ One
-no_faults_are_one spares = refl
-
 -- at most this for so many faults
 fast_over : (f left right : ℕ) → left ≤ 42 * ((f + 1) / 3) → right ≤ 42 * (f - (f + 1) / 3)
     → bound_over (f + 1) left right ≤ 42 * (f + 1)

@@ -61,7 +61,7 @@ module _ (n f : ℕ) (faulty : ℕ → Bool) (s last : ℕ) (instruction : ℕ �
       (begun_by_left_goes (s + d) v (omega arith) (omega arith) ok)
       (origin v ok d (omega arith)))
 
-  -- a node is in no phases of the left half where it has not fired for it
+  -- a node is in no phases of the left half if it has not fired for it
   idle_by : (y v : ℕ) → s + instructions f ≤ y
       → IsQuiet n faulty left (y + 1 - instructions f) (quiet f) → IsCorrect n faulty v
       → begun_by_left y v ≡ true → instruction y v + 2 ≤ instructions f
@@ -85,7 +85,7 @@ module _ (n f : ℕ) (faulty : ℕ → Bool) (s last : ℕ) (instruction : ℕ �
       (subst (λ c. Origin f s c (instruction c v) (begun_by_left c v) (λ x. left x v)) e
       (origin v ok (y - s) (omega arith)))
 
-  -- where all fire for the left half, and none for so long, all are in their phases
+  -- if all fire for the left half, and none for so long, all are in their phases
   module _ (y v : ℕ) (lo : s ≤ y) (hi : y + 1 + instructions f ≤ last) (ok : IsCorrect n faulty v)
       (fired : left y v ≡ true) (calm : IsQuiet n faulty left (y + 1) (quiet f))
       (held : (r : ℕ) → begun_by_left r v ≡ true → instruction r v + 2 ≤ instructions f

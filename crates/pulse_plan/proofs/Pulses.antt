@@ -119,7 +119,7 @@ module _ (n : ℕ) (faulty : ℕ → Bool) (t last period : ℕ) (saw echo back 
         in
         subst (λ r. age r v ≡ suc d + 1) g' (omega arith)
 
-    -- a pulse is as old as the period where the next one comes
+    -- a pulse is as old as the period when the next one comes
     pub of_period : (z v : ℕ) → t ≤ z → IsCorrect n faulty v → output z ≡ 0 → 0 < period
         → z + period + 1 ≤ last → age (z + period + 1) v ≡ period
     of_period z v lo ok e some hi =

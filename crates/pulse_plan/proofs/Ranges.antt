@@ -196,7 +196,7 @@ step_is_state tree modulus v heard some =
 
 -- ---- the zero state
 
--- where each modulus is at least one, zero is in range
+-- if each modulus is at least one, zero is in range
 zero_has : (fields : Fields) (count : ℕ) → 0 < fields.base
     → All (λ modulus. 0 < modulus) fields.moduli
     → HasFields fields (zero_state count)

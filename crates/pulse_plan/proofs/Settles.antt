@@ -1,4 +1,4 @@
--- Where one half counts, one of its first pulses is followed by the quiet rounds, and the registers
+-- If one half counts, one of its first pulses is followed by the quiet rounds, and the registers
 -- are locked.
 use Rattle.std.proofs.Common.{◌≡◌, ◌⊎◌, ℕ, suc, ◌+◌, ◌*◌, ◌<◌, ◌≤◌, Bool, true, false, ◌&&◌, ◌||◌}
 use Rattle.std.proofs.Common.{not}
@@ -22,7 +22,7 @@ use Rattle.pulse_plan.proofs.Apart.{later_ages}
 use Rattle.pulse_plan.proofs.Windows.{IsQuiet}
 use Rattle.pulse_plan.proofs.Origins.{idle, none_right}
 use Rattle.pulse_plan.proofs.Harms.{Calm, not_all, harmed_or_calm}
-use Rattle.pulse_plan.proofs.Kings as kings
+use Rattle.pulse_plan.proofs.KingPhases as kings
 use Rattle.pulse_plan.proofs.Pulses as pulses
 use Rattle.pulse_plan.proofs.Pulses.{Shows}
 use Rattle.pulse_plan.proofs.Rounds as rounds

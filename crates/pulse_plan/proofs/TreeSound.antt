@@ -1,4 +1,4 @@
--- The machine of a tree is sound, where its nodes are at most 256 and its modulus at most 2^40.
+-- The machine of a tree is sound, if its nodes are at most 256 and its modulus at most 2^40.
 use Rattle.std.proofs.Common.{ℕ, ◌+◌, ◌-◌, ◌*◌, ◌^◌, ◌<◌, ◌≤◌, Bool, true, false}
 use Rattle.std.proofs.Common.{cond, List, [], ◌∷◌, length, replicate, All}
 use Rattle.std.proofs.Common.{arith}

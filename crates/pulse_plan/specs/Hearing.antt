@@ -1,6 +1,5 @@
--- How the level states of a group go from one configuration to the next, where each node hears
--- lists of its own. Outputs, which the halves' nodes alone have, and level states are given by
--- place.
+-- How the level states of a group go from one configuration to the next, if each node hears lists
+-- of its own. Outputs, which the halves' nodes alone have, and level states are given by place.
 use Rattle.std.specs.Prelude.{◌≡◌, ℕ, ◌+◌, ◌<◌, ◌≤◌, List, length, Bool, false, slice_index}
 use Rattle.std.specs.Prelude.{slice_index_or}
 use Rattle.pulse_plan.specs.Halves.{Halves}

@@ -27,7 +27,7 @@ EveryPlanSettles = (plan : PulseNumbers) → IsAccepted plan → PlanSettles pla
 abbrev pub AcceptedAreSound : Type 0
 AcceptedAreSound = (plan : PulseNumbers) → IsAccepted plan → IsSound (machine_in plan)
 
--- The bound depends on the faults alone, and does not fall where they grow.
+-- The bound depends on the faults alone, and does not fall when they grow.
 abbrev pub BoundsRise : Type 0
 BoundsRise = (f g spares more : ℕ) → f ≤ g
     → halving_bound (halving_of f spares) ≤ halving_bound (halving_of g more)

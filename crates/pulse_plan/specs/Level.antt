@@ -51,9 +51,9 @@ pub record StaysLocked (nodes : ℕ) (next : ℕ → ℕ) (faulty : ℕ → Bool
   pub locked : (r : ℕ) → from ≤ r → r ≤ last → AllLocked nodes faulty (registers r) (value r)
   pub grows : (r : ℕ) → from ≤ r → r < last → value (r + 1) ≡ next (value r)
 
--- Where the left half counts, the registers are locked two of its periods and R + 1 rounds later.
--- Where the right half counts, and all have stepped for R rounds, three of its periods and R + 1
--- rounds later. The other half is free, and so are the level states in configuration s.
+-- If the left half counts, the registers are locked two of its periods and R + 1 rounds later. If
+-- the right half counts, and all have stepped for R rounds, three of its periods and R + 1 rounds
+-- later. The other half is free, and so are the level states in configuration s.
 abbrev pub PulsesSettle : Type 0
 PulsesSettle = (halves : Halves) (next : ℕ → ℕ) (faulty : ℕ → Bool)
     → Halved halves → places faulty halves.nodes ≤ faults_of halves
@@ -68,7 +68,7 @@ PulsesSettle = (halves : Halves) (next : ℕ → ℕ) (faulty : ℕ → Bool)
     (t + 3 * right_period (faults_of halves) + instructions (faults_of halves) + 1) last
     (λ r v. (states r v).register))
 
--- Where the registers are locked in configuration t they stay so, whatever the halves do.
+-- If the registers are locked in configuration t, they stay so, whatever the halves do.
 abbrev pub LockedStaysLocked : Type 0
 LockedStaysLocked = (halves : Halves) (next : ℕ → ℕ) (faulty : ℕ → Bool)
     → Halved halves → places faulty halves.nodes ≤ faults_of halves

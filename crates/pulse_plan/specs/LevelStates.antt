@@ -6,9 +6,9 @@ use Rattle.sync_types.specs.States.{zero_register}
 use Rattle.construction.specs.PhaseKing.{instructed}
 use Rattle.pulse_plan.specs.Halves.{Halves, faults_of, instructions, left_period}
 
--- A register of the phase king; which of its instructions comes, where the number of all of them
--- says that the node waits; and whether a pulse of the left half began them. How many rounds ago
--- the pulse of the left half was echoed, at most a period; and of each half, whether its output was
+-- A register of the phase king; which of its instructions comes (the number of all of them says
+-- that the node waits); and whether a pulse of the left half began them. How many rounds ago the
+-- pulse of the left half was echoed, at most a period; and of each half, whether its output was
 -- seen to be 0.
 pub record LevelState : Type 0 where
   pub register : Reg
@@ -47,7 +47,7 @@ echoed nodes faults says = nat_le (nodes - 2 * faults) says
 abbrev pub backed : (nodes faults says : ℕ) → Bool
 backed nodes faults says = nat_le (nodes - faults) says
 
--- for the left half a node fires where its pulse is backed a period after the one before
+-- for the left half a node fires if its pulse is backed a period after the one before
 abbrev pub fires_left : Halves → (own : LevelState) → List LevelState → Bool
 fires_left halves own states =
     backed halves.nodes (faults_of halves) (says_left states)
@@ -57,7 +57,7 @@ fires_left halves own states =
 abbrev pub busy : (f : ℕ) (own : LevelState) → Bool
 busy f own = own.begun_by_left && nat_le (own.instruction + 2) (instructions f)
 
--- and for the right half where its pulse is backed, but not in phases that the left half began
+-- and for the right half if its pulse is backed, but not in phases that the left half began
 abbrev pub fires_right : Halves → (own : LevelState) → List LevelState → Bool
 fires_right halves own states =
     backed halves.nodes (faults_of halves) (says_right states) && not (busy (faults_of halves) own)
@@ -66,7 +66,7 @@ fires_right halves own states =
 abbrev pub older : (most : ℕ) (echo : Bool) (age : ℕ) → ℕ
 older most echo age = if echo then 1 else min (age + 1) most
 
--- which instruction comes next: the first one where the node fires; after the last one it waits
+-- which instruction comes next: the first one if the node fires; after the last one it waits
 abbrev pub next_instruction : (f : ℕ) (fire : Bool) (instruction : ℕ) → ℕ
 next_instruction f fire instruction = if fire then 0 else min (instruction + 1) (instructions f)
 

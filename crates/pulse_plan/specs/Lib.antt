@@ -1,3 +1,8 @@
+pub mod Alike
+pub mod Kept
+pub mod MachineGroups
+pub mod PulseMachineLevelStates
+pub mod PulseMachineHearing
 pub mod Halvings
 pub mod Registers
 pub mod Steps

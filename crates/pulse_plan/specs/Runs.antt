@@ -54,7 +54,7 @@ IsLocked One faulty config = ⊤
 IsLocked (Split left right spares) faulty config =
     AllLocked 0 (halving_nodes (Split left right spares)) faulty config
 
--- the first register tells whether a configuration is locked; one node has none
+-- the first register shows whether a configuration is locked; one node has none
 abbrev pub lock_of : Halving → Option ℕ
 lock_of One = None
 lock_of (Split left right spares) = Some 0

@@ -28,7 +28,7 @@ level_bits f modulus =
     register_bits modulus + register_bits (instructions f) + register_bits (left_period f)
     + register_bits 1
 
--- bits of the states of a node in a tree, of a node that has most
+-- the most bits that the states of a node in a tree have
 abbrev pub most_bits : (tree : Halving) (modulus : ℕ) → ℕ
 most_bits One modulus = width modulus
 most_bits (Split left right spares) modulus =

@@ -10,7 +10,7 @@ use Rattle.pulse_plan.specs.Halvings.{Halving, One, Split, halving_nodes, halvin
 use Rattle.pulse_plan.specs.Halvings.{halves_of}
 use Rattle.pulse_plan.specs.Registers.{level_state_of, inner, with_level_state}
 
--- what a state shows in a tree: its number, or the value of the first register, 0 where that is
+-- what a state shows in a tree: its number, or the value of the first register, 0 if that is
 -- infinite
 abbrev pub shown_in : Halving → State → ℕ
 shown_in One state = state.x

@@ -55,7 +55,7 @@ abbrev pub EveryHalvingSettles : Type 0
 EveryHalvingSettles =
     (tree : Halving) (modulus : ℕ) → 2 ≤ modulus → Settles (machine_of tree modulus)
 
--- In each run with a borne faulty set that reaches the bound, the configuration at the bound is
+-- In each run with a tolerated faulty set that reaches the bound, the configuration at the bound is
 -- locked.
 abbrev pub LocksAtBound : Type 0
 LocksAtBound =

@@ -20,19 +20,19 @@ fn level_bits(group: &Group) -> u32
     ensures value { result ≡ level_bits group.now.faults group.now.modulus }
     ensures most { result ≤ 168 }
 {
-    group.tell();
+    group.facts();
     register_bits(group.modulus())
         + register_bits(group.instructions())
         + register_bits(group.left_period())
         + register_bits(1)
 }
 
-/// How many bits the state of a node in a group takes, of a node that has most.
+/// The most bits that the state of a node in a group takes.
 fn bits_in(group: &Group) -> u32
     ensures value { result ≡ most_bits (tree_in group.now) group.now.modulus }
     ensures most { result ≤ 40 + 168 * group.now.faults }
 {
-    group.tell();
+    group.facts();
     if group.faults() == 0 {
         return width(group.modulus());
     }
@@ -41,12 +41,12 @@ fn bits_in(group: &Group) -> u32
     level_bits(group) + left.max(right)
 }
 
-/// How many bits the state of a node takes, of a node that has most.
+/// The most bits that the state of a node takes.
 pub fn state_bits(plan: &PulsePlan) -> u32
     ensures value { result ≡ state_bits plan.now }
     ensures most { result ≤ 14320 }
 {
-    plan.tell();
+    plan.facts();
     bits_in(&plan.whole())
 }
 

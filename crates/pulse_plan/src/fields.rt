@@ -3,12 +3,12 @@ ghost use Rattle.pulse_plan.specs.Fields.{fields_by};
 
 use crate::groups::Group;
 
-/// The modulus of register `i` of a node in a group, None where the node lacks the register.
+/// The modulus of register `i` of a node in a group, None if the node lacks the register.
 pub(crate) fn modulus_in(group: &Group, node: u32, i: usize) -> Option<u64>
     requires { group.now.first ≤ node }
     ensures { result ≡ slice_get (fields_by group.now node).moduli i }
 {
-    group.tell();
+    group.facts();
     if group.faults() == 0 {
         return None;
     }
@@ -24,12 +24,12 @@ pub(crate) fn modulus_in(group: &Group, node: u32, i: usize) -> Option<u64>
     }
 }
 
-/// The modulus of the number of a node in a group, 1 where the node lacks it.
+/// The modulus of the number of a node in a group, 1 if the node lacks it.
 pub(crate) fn base_in(group: &Group, node: u32) -> u64
     requires { group.now.first ≤ node }
     ensures { result ≡ (fields_by group.now node).base }
 {
-    group.tell();
+    group.facts();
     if group.faults() == 0 {
         return group.modulus();
     }

@@ -107,7 +107,7 @@ impl Group {
     }
 
     /// Tells a caller's proof what is true of every group. It does nothing when it runs.
-    pub fn tell(&self)
+    pub fn facts(&self)
         ensures { IsGroup self.now }
     {
         let _first = self.first;
@@ -117,7 +117,7 @@ impl Group {
     pub fn instructions(&self) -> u64
         ensures { result ≡ instructions self.now.faults }
     {
-        self.tell();
+        self.facts();
         3 * (u64::from(self.faults) + 1)
     }
 
@@ -125,7 +125,7 @@ impl Group {
     pub fn left_period(&self) -> u64
         ensures { result ≡ left_period self.now.faults }
     {
-        self.tell();
+        self.facts();
         3 * self.instructions() - 1
     }
 
@@ -141,7 +141,7 @@ impl Group {
         requires { 0 < self.now.faults }
         ensures { result ≡ left_of self.now }
     {
-        self.tell();
+        self.facts();
         let faults = self.faults / 3;
         Group {
             first: self.first,
@@ -157,7 +157,7 @@ impl Group {
         requires { 0 < self.now.faults }
         ensures { result ≡ right_of self.now }
     {
-        self.tell();
+        self.facts();
         let left = self.faults / 3;
         let faults = self.faults - 1 - left;
         Group {
@@ -169,16 +169,15 @@ impl Group {
         }
     }
 
-    /// The half in which a node of the group is, None where it is a spare. Of a group that has
-    /// halves.
+    /// The half in which a node of the group is, None if it is a spare. Of a group that has halves.
     pub fn half_of(&self, node: u32) -> Option<Group>
         requires { 0 < self.now.faults }
         ensures value { result ≡ half_in self.now node }
         ensures half { self.now.first ≤ node → IfSome result (IsHalf self.now node) }
     {
-        self.tell();
+        self.facts();
         let right = self.right();
-        right.tell();
+        right.facts();
         if node < right.first() {
             Some(self.left())
         } else if node < right.first() + right.nodes() {

@@ -15,7 +15,7 @@ pub fn accepted_are_sound()
     ensures { AcceptedAreSound }
 {}
 
-/// The bound depends on the faults alone, and does not fall where they grow.
+/// The bound depends on the faults alone, and does not fall when they grow.
 pub fn bounds_rise()
     ensures { BoundsRise }
 {}

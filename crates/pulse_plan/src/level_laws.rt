@@ -7,15 +7,15 @@ pub fn one_half_is_sound()
     ensures { OneHalfIsSound }
 {}
 
-/// Where a half that tolerates its faults counts, all correct registers, those of spares too, are
+/// If a half that tolerates its faults counts, all correct registers, those of spares too, are
 /// locked at one value two periods of the left half later, or three of the right one, and as many
 /// rounds as there are instructions of the phase king. The other half is free. Of the right half it
 /// holds once all have stepped for as many rounds as there are instructions.
 ///
-/// Where the left half counts, all nodes fire at its second pulse, and none fires for the right
-/// half until all kings had their phases. Where the right half counts, fires for the left half are
-/// still a period apart, which is almost three of the right one: so one of three pulses of the
-/// right half is followed by the phases of all kings, with no fire between.
+/// If the left half counts, all nodes fire at its second pulse, and none fires for the right half
+/// until all kings had their phases. If the right half counts, fires for the left half are still a
+/// period apart, which is almost three of the right one: so one of three pulses of the right half
+/// is followed by the phases of all kings, with no fire between.
 pub fn pulses_settle()
     ensures { PulsesSettle }
 {}

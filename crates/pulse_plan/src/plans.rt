@@ -87,7 +87,7 @@ impl PulsePlan {
     }
 
     /// Tells a caller's proof that the plan is accepted. It does nothing when it runs.
-    pub fn tell(&self)
+    pub fn facts(&self)
         ensures { IsAccepted self.now }
     {
         let _nodes = self.nodes;
@@ -97,7 +97,7 @@ impl PulsePlan {
     pub fn bound(&self) -> u64
         ensures { result ≡ halving_bound (tree_of self.now) }
     {
-        self.tell();
+        self.facts();
         bound_of(self.faults)
     }
 
@@ -105,7 +105,7 @@ impl PulsePlan {
     pub fn depth(&self) -> usize
         ensures { result ≡ halving_depth (tree_of self.now) }
     {
-        self.tell();
+        self.facts();
         depth_of(self.faults)
     }
 
@@ -113,18 +113,18 @@ impl PulsePlan {
     pub fn whole(&self) -> Group
         ensures { result ≡ whole_of self.now }
     {
-        self.tell();
+        self.facts();
         Group::whole(self.nodes, self.faults, self.modulus)
     }
 
-    /// The modulus of the number of a node's states, 1 where the node lacks it.
+    /// The modulus of the number of a node's states, 1 if the node lacks it.
     pub fn base_of(&self, node: u32) -> u64
         ensures { result ≡ (fields_of self.now node).base }
     {
         base_in(&self.whole(), node)
     }
 
-    /// The modulus of register `i` of a node's states, None where the node lacks the register.
+    /// The modulus of register `i` of a node's states, None if the node lacks the register.
     pub fn modulus_of(&self, node: u32, i: usize) -> Option<u64>
         ensures { result ≡ slice_get (fields_of self.now node).moduli i }
     {

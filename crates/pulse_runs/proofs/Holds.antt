@@ -4,7 +4,7 @@ use Rattle.std.specs.Prelude.{◌↔◌, codes}
 use Rattle.adversary_script.specs.Scripts.{Script}
 use Rattle.machines.specs.Machines.{Machine}
 use Rattle.machines.specs.Laws.{IsSound}
-use Rattle.machine_lines.specs.Laws.{AtMostOneInALine}
+use Rattle.machine_runner.specs.LineLaws.{AtMostOneInALine}
 use Rattle.machine_runner.specs.Laws.{IsReadFor}
 use Rattle.slot_table.specs.declared.lines.SlotLine.{SlotLine}
 use Rattle.slot_table.specs.HoldWords.{hold_word_at, WordsAreExact}
@@ -23,7 +23,7 @@ module _ (exact : WordsAreExact) (holds : HolderHolds) (is_one : HolderIsOne)
     (law : AtMostOneInALine) where
   module _ (machine : Machine) (script : Script) (table : List SlotLine)
       (apart : AreApart table) where
-    -- a word at an output is 1 exactly where the node is its holder
+    -- a word at an output is 1 exactly if the node is its holder
     word_is : (output v : ℕ)
         → (hold_word_at table output v ≡ codes " 1") ↔ (holder_of table output ≡ Some v)
     word_is output v =

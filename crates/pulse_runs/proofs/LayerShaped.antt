@@ -18,9 +18,9 @@ use Rattle.node_words.proofs.StateDigits.{most_bits}
 use Rattle.pulse_plan.specs.Steps.{halving_depth}
 use Rattle.pulse_plan.specs.Runs.{all_fields}
 use Rattle.pulse_plan.specs.Plans.{PulseNumbers, IsAccepted, tree_of}
-use Rattle.pulse_nodes.proofs.PlanBits.{some_bits_at, few_registers}
-use Rattle.pulse_nodes.proofs.Shaped as shaped
-use Rattle.pulse_nodes.specs.PulseShapes.{shape_of}
+use Rattle.pulse_texts.proofs.PlanBits.{some_bits_at, few_registers}
+use Rattle.pulse_texts.proofs.Shaped as shaped
+use Rattle.pulse_texts.specs.PulseShapes.{shape_of}
 use Rattle.pulse_runs.specs.LayerShapes.{shape_with}
 
 -- ---- the fields of a node
@@ -32,7 +32,7 @@ module _ (own : Fields) (values count : ℕ) where
   further_bits =
       omega (arith, sum_by-append register_bits own.moduli (replicate count values))
 
-  -- what stands behind is limited
+  -- what stands after is limited
   module _ (most : values ≤ 65536) where
     behind_limited : All (λ modulus. modulus ≤ 2 ^ 40) (replicate count values)
     behind_limited = All-replicate (λ modulus. modulus ≤ 2 ^ 40) count values (omega (arith, most))
@@ -102,7 +102,7 @@ module _ (plan : PulseNumbers) (accepted : IsAccepted plan) (values count : ℕ)
       (sym (get_or-map-range_with_len fields 0 plan.nodes k k d inside (omega arith)))
       (deep k inside)
 
-  -- the modulus of a register of the plan's, and of one behind them
+  -- the modulus of a register of the plan's, and of one after them
   own_at : (v i : ℕ) → v < plan.nodes → i < depth
       → get_or (fields v).moduli i 0 ≡ get_or (fields_at (shape_of plan) v).moduli i 0
   own_at v i lt inside =

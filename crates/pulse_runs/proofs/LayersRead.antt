@@ -1,78 +1,82 @@
--- What was read of an input of a plan, a part that says a layer, and a script.
-use Rattle.std.proofs.Common.{◌≡◌, ℕ, List, Result, Ok, sym, ap, ◌∙◌, subst}
-use Rattle.texts.specs.Lines.{lines_of}
-use Rattle.texts.specs.Parts.{Found}
-use Rattle.state_codec.specs.Shapes.{Shape, IsShape}
+-- What was read of an input of a plan, a part for the plan's counter, and a script.
+use Rattle.std.proofs.Common.{◌≡◌, ℕ, ◌+◌, List, Option, Some, None, Result, Ok, sym, ap, ◌∙◌}
+use Rattle.std.proofs.Common.{subst}
+use Rattle.std.specs.Prelude.{IfOk, IfSome}
+use Rattle.texts.specs.Parts.{At, Found}
+use Rattle.sync_types.specs.declared.answers.Part.{Part}
+use Rattle.sync_types.specs.declared.answers.Rule.{Rule}
+use Rattle.state_codec.specs.Shapes.{Shape, IsShape, shape_nodes}
 use Rattle.adversary_script.specs.Scripts.{Script}
-use Rattle.consensus_layer.specs.declared.agreement.Agreement.{Agreement}
-use Rattle.consensus_layer.specs.AgreeAnswers.{IsReadOver}
-use Rattle.consensus_layer.specs.AgreeSaid.{AgreeSaid}
-use Rattle.consensus_layer.proofs.FitInputs.{inputs_fit_over}
-use Rattle.firing.specs.declared.requests.Request.{Request}
-use Rattle.firing.specs.declared.firing.Firing.{Firing}
-use Rattle.firing.specs.FireAnswers as fire_read
-use Rattle.firing.proofs.FitRequests.{requests_fit_over}
-use Rattle.replicated_log.specs.LogSaid.{LogSaid}
-use Rattle.replicated_log.specs.declared.replica.Replica.{Replica}
-use Rattle.replicated_log.specs.LogReadings as log_read
-use Rattle.replicated_log.proofs.FitLogs.{log_fits_over}
+use Rattle.layer_laws.specs.Numbers.{Numbers}
+use Rattle.layer_parts.specs.declared.registers.Registers.{Registers}
+use Rattle.layer_parts.specs.CounterParts.{AreFew, IsSoundPart}
 use Rattle.pulse_plan.specs.Plans.{PulseNumbers, IsAccepted}
-use Rattle.pulse_runs.specs.declared.errors.RunRefusal.{RunRefusal}
-use Rattle.pulse_runs.specs.RunInputs.{Layered}
-use Rattle.pulse_runs.specs.LayerInputs.{numbers_of, fire_part, agree_part, log_part}
+use Rattle.pulse_texts.proofs.Shaped as own
+use Rattle.pulse_runs.specs.LayerInputs.{numbers_of, layered_by}
+use Rattle.pulse_runs.specs.LayerShapes.{shape_for}
 use Rattle.pulse_runs.specs.Readings.{IsReadBehind, IsFor}
-use Rattle.pulse_runs.specs.LayerReadings.{IsToPlay, FitsLog, FitsRequests, FitsAgreed}
+use Rattle.pulse_runs.specs.LayerReadings.{IsLayered}
+use Rattle.pulse_runs.proofs.LayerShaped as shaped
 use Rattle.pulse_runs.proofs.ReadParts.{holds_at}
 use Rattle.pulse_runs.proofs.ReadLayers.{for_shape}
 
-module _ {O Said : Type 0} (layered_of : List ℕ → Result (Layered Said) RunRefusal)
-    (shape_for : PulseNumbers → Said → Shape) (Fits : PulseNumbers → Said → Type 0)
-    (IsFresh : PulseNumbers → Said → O → Type 0) where
-  pub to_play : (input : List ℕ) (plan : PulseNumbers) (shape : Shape) (number : ℕ)
-      (lines : List (List ℕ)) (s : PulseNumbers × Shape × Script)
-      → IsReadBehind plan shape number lines s → IsAccepted plan → IsShape shape
-      → (said : Said) → layered_of input ≡ Ok (record { plan = s.0; said = said; script = s.2 })
-      → Fits plan said → shape ≡ shape_for plan said → (o : O) → IsFresh plan said o
-      → IsToPlay layered_of shape_for Fits IsFresh input (o, s)
-  to_play input plan shape number lines s read accepted sound said is fits own o fresh =
+-- ---- the shape of states with few registers after the plan's
+
+module _ (plan : PulseNumbers) (accepted : IsAccepted plan) where
+  pub few_sound : (more : Option Registers) → IfSome more AreFew → IsShape (shape_for plan more)
+  few_sound None few = own.is_shape plan accepted
+  few_sound (Some more) few =
+      shaped.is_shape plan accepted more.values more.count few.least few.most
+
+  pub few_nodes : (more : Option Registers) → IfSome more AreFew
+      → shape_nodes (shape_for plan more) ≡ plan.nodes
+  few_nodes None few = own.nodes_are plan accepted
+  few_nodes (Some more) few =
+      shaped.nodes_are plan accepted more.values more.count few.least few.most
+
+-- ---- what is read of a part is for the plan's counter, and its registers are few
+
+module _ {Said : Type 0} (name : Part)
+    (part_over : Numbers → (number : ℕ) → List (List ℕ) → Result (Found Said) (At Rule))
+    (registers : Said → Option Registers) (Fits : Numbers → Said → Type 0)
+    (sound : IsSoundPart part_over registers Fits) where
+  pub said_fits : (numbers : Numbers) (number : ℕ) (lines : List (List ℕ)) (found : Found Said)
+      → part_over numbers number lines ≡ Ok found → Fits numbers found.value
+  said_fits numbers number lines found read =
+      holds_at (λ (f : Found Said). Fits numbers f.value) (part_over numbers number lines) found
+      read (sound.fits numbers number lines)
+
+  pub said_few : (numbers : Numbers) (number : ℕ) (lines : List (List ℕ)) (found : Found Said)
+      → part_over numbers number lines ≡ Ok found → (given : Option Registers)
+      → given ≡ registers found.value → IfSome given AreFew
+  said_few numbers number lines found read given is =
+      subst (λ (more : Option Registers). IfSome more AreFew) (sym is)
+      (sound.few numbers found.value (said_fits numbers number lines found read))
+
+  -- so all is to be played
+  pub to_play : {Made : Type 0} (IsMade : Numbers → Said → Made → Type 0) (input : List ℕ)
+      (plan : PulseNumbers) (shape : Shape) (number : ℕ) (lines : List (List ℕ))
+      (s : PulseNumbers × Shape × Script)
+      → IsReadBehind plan shape number lines s → IsAccepted plan
+      → (said : Said) → layered_by name part_over registers input
+      ≡ Ok (record { plan = s.0; said = said; script = s.2 })
+      → Fits (numbers_of plan) said → shape ≡ shape_for plan (registers said) → (made : Made)
+      → IsMade (numbers_of plan) said made
+      → IsLayered name part_over registers Fits IsMade input (made, s)
+  to_play IsMade input plan shape number lines s read accepted said is fits as_said made made_is =
       let same = sym read.same in
+      let sound_shape : IsShape shape =
+      subst IsShape (sym as_said)
+      (few_sound plan accepted (registers said) (sound.few (numbers_of plan) said fits)) in
       record {
         said = said;
         is = is;
         accepted = subst IsAccepted same accepted;
-        fits = subst (λ (p : PulseNumbers). Fits p said) same fits;
-        fresh = subst (λ (p : PulseNumbers). IsFresh p said o) same fresh;
-        shape = read.states ∙ own ∙ ap (λ (p : PulseNumbers). shape_for p said) same;
+        fits = subst (λ (p : PulseNumbers). Fits (numbers_of p) said) same fits;
+        made_is = subst (λ (p : PulseNumbers). IsMade (numbers_of p) said made) same made_is;
+        shape = read.states ∙ as_said
+            ∙ ap (λ (p : PulseNumbers). shape_for p (registers said)) same;
         script = subst (λ (p : PulseNumbers). IsFor p s.1 s.2) same
             (subst (λ (h : Shape). IsFor plan h s.2) (sym read.states)
-            (for_shape plan shape number lines s read sound));
+            (for_shape plan shape number lines s read sound_shape));
       }
-
--- ---- what is read of a part fits its plan
-
-pub agreed_fits : (plan : PulseNumbers) {number : ℕ} {input : List ℕ} {agreement : Agreement}
-    {bytes lines : ℕ}
-    → (read : IsReadOver (numbers_of plan) number input agreement bytes lines)
-    → FitsAgreed plan read.said
-agreed_fits plan {number} {input} read =
-    holds_at (λ (f : Found AgreeSaid). FitsAgreed plan f.value)
-    (agree_part plan number (lines_of input)) _ read.part
-    (inputs_fit_over (numbers_of plan) number (lines_of input))
-
-pub requests_fit : (plan : PulseNumbers) {number : ℕ} {input : List ℕ} {layer : Firing}
-    {bytes lines : ℕ}
-    → (read : fire_read.IsReadOver (numbers_of plan) number input layer bytes lines)
-    → FitsRequests plan read.requests
-requests_fit plan {number} {input} read =
-    holds_at (λ (f : Found (List Request)). FitsRequests plan f.value)
-    (fire_part plan number (lines_of input)) _ read.part
-    (requests_fit_over (numbers_of plan) number (lines_of input))
-
-pub log_fits : (plan : PulseNumbers) {number : ℕ} {input : List ℕ} {layer : Replica}
-    {bytes lines : ℕ}
-    → (read : log_read.IsReadOver (numbers_of plan) number input layer bytes lines)
-    → FitsLog plan read.said
-log_fits plan {number} {input} read =
-    holds_at (λ (f : Found (LogSaid)). FitsLog plan f.value)
-    (log_part plan number (lines_of input)) _ read.part
-    (log_fits_over (numbers_of plan) number (lines_of input))

@@ -1,10 +1,12 @@
--- A script that was read with a part behind a pulse plan can be played with the part's layer, and
+-- A script that was read with a part after a pulse plan can be played with the part's layer, and
 -- then each of its eras counts.
-use Rattle.std.proofs.Common.{ℕ, List, [], replicate, refl}
-use Rattle.std.proofs.Common.{inr, ap, ◌∙◌, arith}
+use Rattle.std.proofs.Common.{ℕ, List, replicate, Option, Result, inr, ap, ◌∙◌, subst, arith}
+use Rattle.std.specs.Prelude.{IfSome}
 use Rattle.std.proofs.lemmas.List.{length-replicate}
 use Rattle.std.proofs.lemmas.List.Elements.{All-weaker}
+use Rattle.texts.specs.Parts.{At, Found}
 use Rattle.sync_types.specs.FaultSets.{is_in}
+use Rattle.sync_types.specs.declared.answers.Rule.{Rule}
 use Rattle.counter_core.specs.Overlays.{Layer}
 use Rattle.machines.specs.Machines.{Machine}
 use Rattle.machines.specs.Laws.{IsSound}
@@ -19,16 +21,24 @@ use Rattle.layer_runner.specs.Laws.{IsPlayable}
 use Rattle.layer_runner.proofs.EraScenes.{eras_count}
 use Rattle.layer_lines.specs.Counting.{ErasCount}
 use Rattle.consensus_layer.specs.AgreeSaid.{AgreeSaid}
-use Rattle.consensus_layer.specs.AgreeLaws.{agree_keeps}
+use Rattle.consensus_layer.specs.AgreePart as agree
 use Rattle.firing.specs.declared.requests.Request.{Request}
-use Rattle.firing.specs.FireLaws.{fire_keeps}
-use Rattle.firing.specs.Firings.{unfired}
+use Rattle.firing.specs.FirePart as fire
 use Rattle.replicated_log.specs.LogSaid.{LogSaid}
-use Rattle.replicated_log.specs.LogLaws.{log_keeps}
+use Rattle.replicated_log.specs.LogPart as log
+use Rattle.layer_laws.specs.Numbers.{Numbers}
+use Rattle.layer_parts.specs.declared.registers.Registers.{Registers}
+use Rattle.layer_parts.specs.CounterParts.{AreFew, IsSoundPart}
+use Rattle.layer_parts.specs.LayerWords.{LayerWords, registers_of, IsSoundLayer}
+use Rattle.layer_parts.specs.Layers.{agree_registers, agree_words, fire_registers, fire_words}
+use Rattle.layer_parts.specs.Layers.{log_registers, log_words}
+use Rattle.layer_parts.specs.SoundLayers.{agree_sound, agree_right, fire_sound, fire_right}
+use Rattle.layer_parts.specs.SoundLayers.{log_sound, log_right}
 use Rattle.pulse_plan.specs.Plans.{PulseNumbers, IsAccepted}
 use Rattle.pulse_plan.specs.Laws.{machine_in}
 use Rattle.pulse_plan.proofs.Sound.{accepted_are_sound}
-use Rattle.pulse_runs.specs.LayerInputs.{agree_shape, fire_shape, log_shape}
+use Rattle.pulse_runs.specs.LayerInputs.{numbers_of, agree_shape, fire_shape, log_shape}
+use Rattle.pulse_runs.specs.LayerShapes.{shape_for}
 use Rattle.pulse_runs.specs.LayerReadings.{FitsAgreed, FitsRequests, FitsLog}
 use Rattle.pulse_runs.specs.LayerPromises.{agreeing, undecided, firing_on, none_fired, logging}
 use Rattle.pulse_runs.specs.LayerPromises.{nothing_logged}
@@ -39,47 +49,54 @@ use Rattle.pulse_runs.proofs.ReadOver.{read_over}
 kept_for : {Kept : Type 0} (n : ℕ) (x : Kept) → IsKeptFor n (replicate n x)
 kept_for n x = inr (omega (arith, length-replicate n x))
 
+-- a part that says a layer
+module _ {Said Kept : Type 0}
+    (part_over : Numbers → (number : ℕ) → List (List ℕ) → Result (Found Said) (At Rule))
+    (registers : Said → Option Registers) (Fits : Numbers → Said → Type 0)
+    (few : IsSoundPart part_over registers Fits) (words : LayerWords Said Kept)
+    (right : IsSoundLayer words registers Fits) (plan : PulseNumbers) (accepted : IsAccepted plan)
+    (script : Script) where
+  pub layer_plays : (said : Said) → Fits (numbers_of plan) said
+      → IsFor plan (shape_for plan (registers said)) script
+      → IsPlayable (machine_in plan) script (words.layer (numbers_of plan) said)
+      (replicate (machine_in plan).nodes words.first)
+  layer_plays said fits for =
+      let sound : IsSound (machine_in plan) = accepted_are_sound plan accepted in
+      let is = right.registers_are (numbers_of plan) said in
+      let range : AreFew (registers_of (words.layer (numbers_of plan) said)) =
+      subst (λ (more : Option Registers). IfSome more AreFew) is
+      (few.few (numbers_of plan) said fits) in
+      record {
+        sound = sound;
+        keeps = right.keeps (numbers_of plan) said sound.quorum fits;
+        read = read_over plan accepted (words.layer (numbers_of plan) said) range.least range.most
+            (right.fits (machine_counter (machine_in plan)) said) script
+            (subst (λ (more : Option Registers). IsFor plan (shape_for plan more) script) is for);
+        enough = kept_for (machine_in plan).nodes words.first;
+      }
+
+-- ---- the three layers
+
 module _ (plan : PulseNumbers) (accepted : IsAccepted plan) (script : Script) where
-  abbrev machine : Machine
-  machine = machine_in plan
-
-  sound : IsSound machine
-  sound = accepted_are_sound plan accepted
-
   pub agreement_plays : (said : AgreeSaid) → FitsAgreed plan said
       → IsFor plan (agree_shape plan said) script
-      → IsPlayable machine script (agreeing plan said) (undecided plan)
-  agreement_plays said fits for = record {
-    sound = sound;
-    keeps = agree_keeps machine.nodes machine.faults machine.modulus machine.depth said.values
-        said.inputs sound.quorum fits.nodes fits.range;
-    read = read_over plan accepted (agreeing plan said) fits.two fits.few
-        (λ some. record { nodes = refl; modulus = refl; depth = refl }) script for;
-    enough = kept_for machine.nodes 0;
-  }
+      → IsPlayable (machine_in plan) script (agreeing plan said) (undecided plan)
+  agreement_plays =
+      layer_plays agree.part_over agree_registers agree.IsForNumbers agree_sound agree_words
+      agree_right plan accepted script
 
   pub firing_plays : (requests : List Request) → FitsRequests plan requests
       → IsFor plan (fire_shape plan requests) script
-      → IsPlayable machine script (firing_on plan requests) (none_fired plan)
-  firing_plays requests fits for = record {
-    sound = sound;
-    keeps = fire_keeps machine.nodes machine.faults machine.modulus machine.depth requests
-        sound.quorum;
-    read = read_over plan accepted (firing_on plan requests) (omega arith) (omega arith)
-        (λ some. record { nodes = refl; modulus = refl; depth = refl }) script for;
-    enough = kept_for machine.nodes unfired;
-  }
+      → IsPlayable (machine_in plan) script (firing_on plan requests) (none_fired plan)
+  firing_plays =
+      layer_plays fire.part_over fire_registers fire.AreForNumbers fire_sound fire_words
+      fire_right plan accepted script
 
   pub log_plays : (said : LogSaid) → FitsLog plan said → IsFor plan (log_shape plan said) script
-      → IsPlayable machine script (logging plan said) (nothing_logged plan)
-  log_plays said fits for = record {
-    sound = sound;
-    keeps = log_keeps machine.nodes machine.faults machine.modulus machine.depth said.values
-        said.keep said.commands sound.quorum fits.nodes fits.range;
-    read = read_over plan accepted (logging plan said) fits.two fits.few
-        (λ some. record { nodes = refl; modulus = refl; depth = refl }) script for;
-    enough = kept_for machine.nodes [];
-  }
+      → IsPlayable (machine_in plan) script (logging plan said) (nothing_logged plan)
+  log_plays =
+      layer_plays log.part_over log_registers log.IsForNumbers log_sound log_words log_right plan
+      accepted script
 
 -- ---- what can be played counts
 

@@ -1,45 +1,36 @@
 -- What an input is read as, by what was read of it piece by piece.
 use Rattle.std.proofs.Common.{◌≡◌, ℕ, ◌+◌, ◌-◌, List, length, take, drop, Result, Ok, Err, refl}
 use Rattle.std.proofs.Common.{sym, ap, ◌∙◌, subst, arith}
-use Rattle.std.specs.Prelude.{MatchResult}
-use Rattle.std.specs.Result.{IsErrAnd}
-use Rattle.std.proofs.lemmas.Result.{err_from_is_err_and}
 use Rattle.std.proofs.lemmas.List.{take_all, length-drop}
 use Rattle.texts.specs.Lines.{lines_of}
 use Rattle.texts.specs.Parts.{At, Found}
 use Rattle.sync_types.specs.declared.answers.Part.{Part}
+use Rattle.sync_types.specs.declared.answers.Part.TheVariants as named
 use Rattle.sync_types.specs.declared.answers.Rule.{Rule}
+use Rattle.edge_io.specs.declared.taking.PartError.{PartError}
+use Rattle.edge_io.specs.declared.taking.PartError.TheVariants as unread
+use Rattle.edge_io.specs.Taking.{FailsAsDefined}
 use Rattle.state_codec.specs.Shapes.{Shape, shape_nodes}
-use Rattle.adversary_script.specs.declared.refusals.ScriptError.{ScriptError}
-use Rattle.adversary_script.specs.declared.refusals.ScriptError.TheVariants as script
 use Rattle.adversary_script.specs.Scripts.{Script}
 use Rattle.adversary_script.specs.ScriptPart.{script_for}
-use Rattle.adversary_script.specs.ScriptRefusals as scripts
 use Rattle.pulse_plan.specs.Plans.{PulseNumbers}
 use Rattle.pulse_texts.specs.PulsesPart.{pulses_of, found_in}
-use Rattle.pulse_nodes.specs.PulseShapes.{shape_of}
+use Rattle.pulse_texts.specs.PulseShapes.{shape_of}
 use Rattle.pulse_runs.specs.declared.errors.RunRefusal.{RunRefusal}
 use Rattle.pulse_runs.specs.declared.errors.PlayError.{PlayError}
 use Rattle.pulse_runs.specs.declared.errors.PlayError.TheVariants as error
 use Rattle.pulse_runs.specs.RunInputs.{in_plan, in_part, in_script, then_read, script_behind}
 use Rattle.pulse_runs.specs.RunInputs.{with_script, scripted_behind, scripted_of, with_said}
 use Rattle.pulse_runs.specs.RunInputs.{Layered, behind_part, layered_behind, layered_of}
-use Rattle.pulse_runs.specs.Readings.{script_error, Refuses, IsReadBehind, FailsBehind}
+use Rattle.pulse_runs.specs.Readings.{part_error, Refuses, IsReadBehind, FailsBehind}
 
--- all that is left of a text behind its front
+-- all that is left of a text after its beginning
 all_left : (text : List ℕ) (bytes : ℕ)
     → take (length text - bytes) (drop bytes text) ≡ drop bytes text
 all_left text bytes =
     take_all (length text - bytes) (drop bytes text) (omega (arith, length-drop bytes text))
 
--- what fails, where the error of a call was passed on
-module _ {T E V : Type 0} (P : T → Type 0) (defined : Result V RunRefusal) (given : E → PlayError)
-    (e : E) (result : Result T PlayError) where
-  pub passed_on : Refuses (given e) defined → IsErrAnd result (λ d. d ≡ given e)
-      → MatchResult result P (λ d. Refuses d defined)
-  passed_on refuses is = let p = err_from_is_err_and result is in rw (p.1, p.2) refuses
-
--- ---- the script behind a plan
+-- ---- the script after a plan
 
 module _ (plan : PulseNumbers) (number : ℕ) (lines : List (List ℕ)) (shape : Shape)
     (size : shape_nodes shape ≡ plan.nodes) (faults : ℕ) (few : faults ≡ plan.faults) where
@@ -52,10 +43,10 @@ module _ (plan : PulseNumbers) (number : ℕ) (lines : List (List ℕ)) (shape :
       ap (λ (f : ℕ). script_for (shape_nodes shape) f shape number lines) few
       ∙ ap (λ (n : ℕ). script_for n plan.faults shape number lines) size
 
-  pub script_fails : (e : ScriptError) → scripts.FailsAsDefined e said
-      → FailsBehind plan shape number lines (script_error e)
-  script_fails script.NoMemory defined = tt
-  script_fails (script.Refused refused) defined =
+  pub script_fails : (e : PartError Rule) → FailsAsDefined e said
+      → FailsBehind plan shape number lines (part_error named.Script e)
+  script_fails unread.NoMemory defined = tt
+  script_fails (unread.Refused refused) defined =
       ap (then_read in_script (λ (s : Script). Ok s)) (sym said_is ∙ defined)
 
   pub read_behind : (machine : PulseNumbers) → machine ≡ plan → (s : Script) → said ≡ Ok s
@@ -67,7 +58,7 @@ same_error : {V : Type 0} (r : Result V RunRefusal) (a b : RunRefusal) → r ≡
     → a ≡ b
 same_error r a b one other = cc
 
--- the error behind a plan is that of what is made of the script
+-- the error after a plan is that of what is made of the script
 behind_fails : {W : Type 0} (make : Script → Result W RunRefusal) (r : Result Script (At Rule))
     (e : PlayError) → Refuses e (then_read in_script (λ (s : Script). Ok s) r)
     → Refuses e (then_read in_script make r)
@@ -120,7 +111,7 @@ module _ (input : List ℕ) (plan : PulseNumbers) (bytes lines : ℕ)
         (behind_fails (with_script plan)
         (script_behind plan shape (1 + lines) (lines_of rest)) e fails)
 
-  -- with a part of that name behind the plan
+  -- with a part of that name after the plan
   module _ {Said : Type 0} (name : Part)
       (part_of : PulseNumbers → (number : ℕ) → List (List ℕ) → Result (Found Said) (At Rule))
       (shape_for : PulseNumbers → Said → Shape) where
@@ -132,11 +123,18 @@ module _ (input : List ℕ) (plan : PulseNumbers) (bytes lines : ℕ)
         (part_of plan (1 + lines) (lines_of rest))
     by_part = by_plan (layered_behind name part_of shape_for)
 
-    pub part_fails : (at : At Rule) → part_of plan (1 + lines) (lines_of rest) ≡ Err at
+    part_fails : (at : At Rule) → part_of plan (1 + lines) (lines_of rest) ≡ Err at
         → defined ≡ Err (in_part name at)
     part_fails at is =
         by_part
         ∙ ap (then_read (in_part name) (behind_part name part_of shape_for plan (1 + lines))) is
+
+    pub part_unread : (e : PartError Rule)
+        → FailsAsDefined e (part_of plan (1 + lines) (lines_of rest))
+        → Refuses (part_error name e) defined
+    part_unread unread.NoMemory fails = tt
+    part_unread (unread.Refused refused) fails =
+        part_fails (record { line = refused.line; rule = refused.rule }) fails
 
     module _ (value : Said) (taken part_lines : ℕ)
         (part : part_of plan (1 + lines) (lines_of rest)

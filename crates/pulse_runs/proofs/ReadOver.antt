@@ -2,7 +2,7 @@
 -- the layer above.
 use Rattle.std.proofs.Common.{◌≡◌, ℕ, ◌≤◌, refl, sym, ◌∙◌, subst, arith}
 use Rattle.state_codec.specs.Shapes.{Shape, shape_nodes}
-use Rattle.counter_core.specs.Overlays.{Layer, StandsOver}
+use Rattle.counter_core.specs.Overlays.{Layer, LayerFits}
 use Rattle.adversary_script.specs.Scripts.{Script}
 use Rattle.adversary_script.specs.ScriptPart.{IsScriptFor}
 use Rattle.layer_runner.specs.Counters.{machine_counter}
@@ -18,7 +18,7 @@ use Rattle.pulse_runs.proofs.Scripts.{faults_are}
 
 module _ {Kept : Type 0} (plan : PulseNumbers) (accepted : IsAccepted plan) (layer : Layer Kept)
     (least : 2 ≤ layer.values) (most : layer.values ≤ 65536)
-    (over : StandsOver layer (machine_counter (machine_in plan))) where
+    (over : LayerFits layer (machine_counter (machine_in plan))) where
   abbrev shape : Shape
   shape = shape_with plan layer.values layer.extra
 

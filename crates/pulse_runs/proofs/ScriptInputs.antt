@@ -21,9 +21,9 @@ use Rattle.pulse_plan.specs.Plans.{PulseNumbers, IsAccepted}
 use Rattle.pulse_texts.specs.PulsesPart.{pulses_of}
 use Rattle.pulse_texts.specs.PulsesTexts.{PulsesTextIsRead}
 use Rattle.pulse_texts.proofs.Rewritten.{read_is_accepted}
-use Rattle.pulse_nodes.specs.PulseShapes.{shape_of}
-use Rattle.pulse_nodes.proofs.PlanBits.{some_bits_at, few_registers}
-use Rattle.pulse_nodes.proofs.Shaped as shaped
+use Rattle.pulse_texts.specs.PulseShapes.{shape_of}
+use Rattle.pulse_texts.proofs.PlanBits.{some_bits_at, few_registers}
+use Rattle.pulse_texts.proofs.Shaped as shaped
 use Rattle.pulse_runs.specs.declared.errors.RunRefusal.{RunRefusal}
 use Rattle.pulse_runs.specs.RunInputs.{in_plan, in_part, in_script, then_read, script_behind}
 use Rattle.pulse_runs.specs.RunInputs.{Scripted, with_script, scripted_behind, scripted_of}
@@ -63,7 +63,7 @@ own_has plan accepted = record {
   some = some_bits_at plan accepted;
 }
 
--- that with registers of a layer behind
+-- that with registers of a layer after
 more_has : (plan : PulseNumbers) → IsAccepted plan → (values count : ℕ) → 2 ≤ values
     → values ≤ 65536 → count ≤ 2 → HasText plan.nodes (shape_with plan values count)
 more_has plan accepted values count least most few = record {

@@ -1,4 +1,4 @@
--- An input that is read: its plan is accepted, a part behind it fits it, and the script is one for
+-- An input that is read: its plan is accepted, a part after it fits it, and the script is one for
 -- the plan's machine.
 use Rattle.std.proofs.Common.{◌≡◌, ℕ, ◌+◌, List, Result, Ok, refl, sym, ◌∙◌, subst, arith}
 use Rattle.std.specs.Prelude.{IfOk}
@@ -21,8 +21,8 @@ use Rattle.pulse_plan.specs.Laws.{machine_in}
 use Rattle.pulse_plan.proofs.Sound.{nodes_are}
 use Rattle.pulse_texts.specs.PulsesPart.{pulses_of}
 use Rattle.pulse_texts.proofs.Rewritten.{read_is_accepted}
-use Rattle.pulse_nodes.specs.PulseShapes.{shape_of}
-use Rattle.pulse_nodes.proofs.Shaped as shaped
+use Rattle.pulse_texts.specs.PulseShapes.{shape_of}
+use Rattle.pulse_texts.proofs.Shaped as shaped
 use Rattle.pulse_runs.specs.RunInputs.{in_plan, in_part, in_script, script_behind, Scripted}
 use Rattle.pulse_runs.specs.RunInputs.{with_script, scripted_behind, scripted_of, Layered}
 use Rattle.pulse_runs.specs.RunInputs.{with_said, behind_part, layered_behind, layered_of}
@@ -43,7 +43,7 @@ pub record IsLayered {Said : Type 0} (shape_for : PulseNumbers → Said → Shap
   pub fits : Fits read.plan read.said
   pub script : IsFor read.plan (shape_for read.plan read.said) read.script
 
--- a script that is read behind a plan is one for the shape by which it is read
+-- a script that is read after a plan is one for the shape by which it is read
 pub script_is_for : (plan : PulseNumbers) (shape : Shape) → IsShape shape → (number : ℕ)
     (lines : List (List ℕ)) → IfOk (script_behind plan shape number lines) (IsFor plan shape)
 script_is_for plan shape sound number lines =
@@ -105,7 +105,7 @@ scripted_read input =
 pub is_read : (input : List ℕ) (s : Scripted) → scripted_of input ≡ Ok s → IsRead s.plan s.script
 is_read input s is = holds_at ScriptedRead (scripted_of input) s is (scripted_read input)
 
--- a part of that name, where what is said fits its plan, and the shape is one
+-- a part of that name, if what is said fits its plan, and the shape is one
 module _ {Said : Type 0} (name : Part)
     (part_of : PulseNumbers → (number : ℕ) → List (List ℕ) → Result (Found Said) (At Rule))
     (shape_for : PulseNumbers → Said → Shape) (Fits : PulseNumbers → Said → Type 0)

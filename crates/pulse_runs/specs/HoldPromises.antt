@@ -5,7 +5,7 @@ use Rattle.construction.specs.Steps.{state_of}
 use Rattle.adversary_script.specs.Scripts.{Script}
 use Rattle.adversary_script.specs.Eras.{era_of, first_of_era, faulty_at}
 use Rattle.machines.specs.Machines.{Machine, AllShow}
-use Rattle.machine_lines.specs.HoldTexts.{hold_word}
+use Rattle.machine_runner.specs.HoldTexts.{hold_word}
 use Rattle.machine_runner.specs.Played.{played_at}
 use Rattle.slot_table.specs.declared.lines.SlotLine.{SlotLine}
 use Rattle.slot_table.specs.HoldWords.{IsHoldWord}
@@ -22,10 +22,10 @@ module _ (machine : Machine) (script : Script) (table : List SlotLine) where
   abbrev pub output_shown : (t v : ℕ) → ℕ
   output_shown t v = machine.shows v (state_of (played_at machine script t) v)
 
-  -- A node's word is 1 exactly where the table gives it the output that it shows. Where all correct
-  -- nodes show one output, that of a correct one is 1 exactly where the node is that output's
-  -- holder. From the bound on, counted from the first configuration of an era, at most one correct
-  -- node's word is 1.
+  -- A node's word is 1 exactly if the table gives it the output that it shows. If all correct nodes
+  -- show one output, that of a correct one is 1 exactly if the node is that output's holder. From
+  -- the bound on, counted from the first configuration of an era, at most one correct node's word
+  -- is 1.
   pub record LinesHold : Type 0 where
     pub words : (t v : ℕ) → IsHoldWord table (output_shown t v) v
     pub holder : (t output : ℕ)

@@ -1,6 +1,7 @@
 -- Inputs of a pulse plan, a part that says what stands above its counter, and a script.
-use Rattle.std.specs.Prelude.{ℕ, List, Result}
+use Rattle.std.specs.Prelude.{ℕ, List, Option, Result}
 use Rattle.texts.specs.Parts.{At, Found}
+use Rattle.sync_types.specs.declared.answers.Part.{Part}
 use Rattle.sync_types.specs.declared.answers.Part.TheVariants as part
 use Rattle.sync_types.specs.declared.answers.Rule.{Rule}
 use Rattle.state_codec.specs.Shapes.{Shape}
@@ -16,10 +17,11 @@ use Rattle.replicated_log.specs.LogPart as log
 use Rattle.pulse_plan.specs.Halvings.{halving_nodes, halving_faults}
 use Rattle.pulse_plan.specs.Steps.{halving_depth}
 use Rattle.pulse_plan.specs.Plans.{PulseNumbers, tree_of}
-use Rattle.pulse_nodes.specs.PulseShapes.{shape_of}
+use Rattle.pulse_texts.specs.PulseShapes.{shape_of}
 use Rattle.pulse_runs.specs.declared.errors.RunRefusal.{RunRefusal}
 use Rattle.pulse_runs.specs.RunInputs.{Layered, layered_of}
-use Rattle.pulse_runs.specs.LayerShapes.{shape_with}
+use Rattle.layer_parts.specs.declared.registers.Registers.{Registers}
+use Rattle.pulse_runs.specs.LayerShapes.{shape_with, shape_for}
 
 -- the numbers of a plan's counter
 abbrev pub numbers_of : PulseNumbers → Numbers
@@ -29,6 +31,15 @@ numbers_of plan = record {
   modulus = plan.modulus;
   depth = halving_depth (tree_of plan);
 }
+
+-- ---- a part for the numbers of a plan's counter, which has such registers
+
+abbrev pub layered_by : {Said : Type 0} → Part
+    → (part_over : Numbers → (number : ℕ) → List (List ℕ) → Result (Found Said) (At Rule))
+    → (registers : Said → Option Registers) → List ℕ → Result (Layered Said) RunRefusal
+layered_by name part_over registers input =
+    layered_of name (λ plan. part_over (numbers_of plan))
+    (λ plan said. shape_for plan (registers said)) input
 
 -- ---- a slot table of the plan's nodes, and of the outputs that it counts by: it has no registers
 
@@ -42,7 +53,7 @@ slots_shape plan table = shape_of plan
 abbrev pub slotted_of : List ℕ → Result (Layered (List SlotLine)) RunRefusal
 slotted_of input = layered_of part.Slots slots_part slots_shape input
 
--- ---- consensus: one register of the values that are said, behind those of the plan
+-- ---- consensus: one register of the values that are said, after those of the plan
 
 abbrev pub agree_part : PulseNumbers → (number : ℕ) → List (List ℕ)
     → Result (Found AgreeSaid) (At Rule)

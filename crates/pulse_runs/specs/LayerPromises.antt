@@ -58,7 +58,7 @@ pub record EraKeepsLayer {Kept : Type 0} (machine : Machine) (script : Script) (
       → EraStaysLocked machine script layer began j t
 
 -- The plan is accepted, and the script is one for its machine with the layer above. What is played
--- is the script's, where the nodes began with these things kept, and so it is of each era.
+-- is the script's, if the nodes began with these things kept, and so it is of each era.
 pub record LayerKeepsPromise {Kept : Type 0} (plan : PulseNumbers) (layer : Layer Kept)
     (began : List Kept) (script : Script) : Type 0 where
   pub accepted : IsAccepted plan
@@ -93,8 +93,8 @@ module _ (plan : PulseNumbers) where
   nothing_logged = replicate counter_of.nodes []
 
   -- In each era, each slot that begins later than T rounds into it and ends in it ends with one
-  -- decision of all correct nodes, which is their common input where they have one. Just such slots
-  -- have a line, where they begin in a configuration that is shown, and its words are the decision.
+  -- decision of all correct nodes, which is their common input if they have one. Just such slots
+  -- have a line, if they begin in a configuration that is shown, and its words are the decision.
   pub record DecisionsKeepPromise (said : AgreeSaid) (script : Script) : Type 0 where
     pub run : LayerKeepsPromise plan (agreeing said) undecided script
     pub fits : FitsAgreed plan said
@@ -108,9 +108,9 @@ module _ (plan : PulseNumbers) where
         (agree_scene counter_of script said t).states ≡ true
         → LineDecides counter_of script said t
 
-  -- In each era, where such a slot ends all correct nodes fire or none does: as they requested in
-  -- the round before it, where they did the same. Inside a slot none fires. Just such slots have a
-  -- line, where they begin in a configuration that is shown, and its words say who fires.
+  -- In each era, when such a slot ends, all correct nodes fire or none does: as they requested in
+  -- the round before it, if they did the same. Inside a slot none fires. Just such slots have a
+  -- line, if they begin in a configuration that is shown, and its words say who fires.
   pub record FiresKeepPromise (requests : List Request) (script : Script) : Type 0 where
     pub run : LayerKeepsPromise plan (firing_on requests) none_fired script
     pub fits : FitsRequests plan requests
@@ -130,9 +130,9 @@ module _ (plan : PulseNumbers) where
 
   -- In each era, each slot that begins at T rounds into it or later and ends in it puts one entry
   -- into the logs of all correct nodes, so that since any such slot all have put the same. If it
-  -- begins later than T, the entry is what its owner commands, where that is correct. Just the
-  -- slots that begin later have a line, where they begin in a configuration that is shown, and its
-  -- words are the entry's value.
+  -- begins later than T, the entry is what its owner commands, if that is correct. Just the slots
+  -- that begin later have a line, if they begin in a configuration that is shown, and its words are
+  -- the entry's value.
   pub record EntriesKeepPromise (said : LogSaid) (script : Script) : Type 0 where
     pub run : LayerKeepsPromise plan (logging said) nothing_logged script
     pub fits : FitsLog plan said

@@ -1,23 +1,14 @@
 -- What was read of an input, and what an error of reading says of it. Want of memory says nothing.
 use Rattle.std.specs.Prelude.{◌≡◌, ℕ, List, Result, Ok, Err}
 use Rattle.sync_types.specs.declared.answers.Part.{Part}
-use Rattle.sync_types.specs.declared.answers.Part.TheVariants as part
 use Rattle.sync_types.specs.declared.answers.Rule.{Rule}
+use Rattle.edge_io.specs.declared.taking.PartError.{PartError}
+use Rattle.edge_io.specs.declared.taking.PartError.TheVariants as part
 use Rattle.state_codec.specs.Shapes.{Shape}
-use Rattle.adversary_script.specs.declared.refusals.ScriptError.{ScriptError}
-use Rattle.adversary_script.specs.declared.refusals.ScriptError.TheVariants as script
 use Rattle.adversary_script.specs.Scripts.{Script, IsScript}
 use Rattle.adversary_script.specs.ScriptPart.{IsScriptFor}
 use Rattle.machine_runner.specs.Laws.{IsReadFor}
 use Rattle.slot_table.specs.declared.lines.SlotLine.{SlotLine}
-use Rattle.slot_table.specs.declared.refusals.SlotError.{SlotError}
-use Rattle.slot_table.specs.declared.refusals.SlotError.TheVariants as slot
-use Rattle.consensus_layer.specs.declared.refusals.AgreeError.{AgreeError}
-use Rattle.consensus_layer.specs.declared.refusals.AgreeError.TheVariants as agree
-use Rattle.firing.specs.declared.refusals.FireError.{FireError}
-use Rattle.firing.specs.declared.refusals.FireError.TheVariants as fire
-use Rattle.replicated_log.specs.declared.refusals.LogError.{LogError}
-use Rattle.replicated_log.specs.declared.refusals.LogError.TheVariants as log
 use Rattle.pulse_plan.specs.Plans.{PulseNumbers}
 use Rattle.pulse_plan.specs.Laws.{machine_in}
 use Rattle.pulse_texts.specs.declared.refusals.PulsesError.{PulsesError}
@@ -35,28 +26,10 @@ abbrev pub plan_error : PulsesError → PlayError
 plan_error pulses.NoMemory = error.NoMemory
 plan_error (pulses.Refused refused) = error.Refused (refusal.Plan refused.line refused.premise)
 
-abbrev pub part_refused : Part → (line : ℕ) → Rule → PlayError
-part_refused name line rule = error.Refused (refusal.Part name line rule)
-
-abbrev pub slots_error : SlotError → PlayError
-slots_error slot.NoMemory = error.NoMemory
-slots_error (slot.Refused refused) = part_refused part.Slots refused.line refused.rule
-
-abbrev pub agree_error : AgreeError → PlayError
-agree_error agree.NoMemory = error.NoMemory
-agree_error (agree.Refused refused) = part_refused part.Agree refused.line refused.rule
-
-abbrev pub fire_error : FireError → PlayError
-fire_error fire.NoMemory = error.NoMemory
-fire_error (fire.Refused refused) = part_refused part.Fire refused.line refused.rule
-
-abbrev pub log_error : LogError → PlayError
-log_error log.NoMemory = error.NoMemory
-log_error (log.Refused refused) = part_refused part.Log refused.line refused.rule
-
-abbrev pub script_error : ScriptError → PlayError
-script_error script.NoMemory = error.NoMemory
-script_error (script.Refused refused) = part_refused part.Script refused.line refused.rule
+abbrev pub part_error : Part → PartError Rule → PlayError
+part_error name part.NoMemory = error.NoMemory
+part_error name (part.Refused refused) =
+    error.Refused (refusal.Part name refused.line refused.rule)
 
 -- a refusal is exactly the one that is defined; no reading fails to write
 abbrev pub Refuses : {V : Type 0} → PlayError → Result V RunRefusal → Type 0

@@ -1,5 +1,5 @@
 -- What an input is read as, or the refusal of its first line that fails: a pulse plan, and a script
--- for it, also with another part between them.
+-- for it, perhaps with another part between them.
 use Rattle.std.specs.Prelude.{ℕ, ◌+◌, List, Result, Ok, Err}
 use Rattle.texts.specs.Parts.{At, Found}
 use Rattle.sync_types.specs.declared.answers.Part.{Part}
@@ -11,7 +11,7 @@ use Rattle.adversary_script.specs.ScriptPart.{script_for}
 use Rattle.pulse_plan.specs.Plans.{PulseNumbers}
 use Rattle.pulse_texts.specs.declared.premises.LinePremise.{LinePremise}
 use Rattle.pulse_texts.specs.PulsesPart.{pulses_of}
-use Rattle.pulse_nodes.specs.PulseShapes.{shape_of}
+use Rattle.pulse_texts.specs.PulseShapes.{shape_of}
 use Rattle.pulse_runs.specs.declared.errors.RunRefusal.{RunRefusal}
 use Rattle.pulse_runs.specs.declared.errors.RunRefusal.TheVariants as refusal
 
@@ -71,7 +71,7 @@ with_said plan said script = Ok (record { plan = plan; said = said; script = scr
 module _ {Said : Type 0} (name : Part)
     (part_of : PulseNumbers → (number : ℕ) → List (List ℕ) → Result (Found Said) (At Rule))
     (shape_for : PulseNumbers → Said → Shape) where
-  -- the script behind a part that begins with the line of that number
+  -- the script after a part that begins with the line of that number
   abbrev pub behind_part : PulseNumbers → (number : ℕ) → Found Said
       → Result (Layered Said) RunRefusal
   behind_part plan number found =

@@ -3,7 +3,7 @@ use Rattle.std.specs.Prelude.{◌≡◌, ℕ, ◌+◌, ◌<◌, ◌≤◌, List,
 use Rattle.adversary_script.specs.Scripts.{Script}
 use Rattle.adversary_script.specs.Eras.{first_of_era, end_of_era, faulty_of_era, faulty_at}
 use Rattle.machines.specs.Machines.{Machine, IsBorne, IsLocked}
-use Rattle.machine_lines.specs.RunTexts.{lock_played}
+use Rattle.machine_runner.specs.ShownTexts.{lock_played}
 use Rattle.machine_runner.specs.Laws.{IsReadFor, IsUpTo, EraIsRun, EraCountsFrom, EraStaysLocked}
 use Rattle.machine_runner.specs.Locks.{IsFirstLocked}
 use Rattle.machine_runner.specs.Played.{played_at}

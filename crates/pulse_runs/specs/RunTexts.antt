@@ -1,12 +1,20 @@
 -- What is written of an input: the run of the plan and the script that it is read as, or the line
 -- of its refusal.
-use Rattle.std.specs.Prelude.{◌≡◌, ℕ, List, [], ◌∷◌, Result, Ok, Err, codes, decimal}
+use Rattle.std.specs.Prelude.{◌≡◌, ℕ, List, [], ◌∷◌, Option, Result, Ok, Err, codes, decimal}
 use Rattle.std.specs.List.{concat}
-use Rattle.texts.specs.Growth.{Told, Wrote, Cut}
+use Rattle.texts.specs.Parts.{At, Found}
+use Rattle.sync_types.specs.declared.answers.Part.{Part}
+use Rattle.sync_types.specs.declared.answers.Rule.{Rule}
+use Rattle.layer_laws.specs.Numbers.{Numbers}
+use Rattle.layer_parts.specs.declared.registers.Registers.{Registers}
+use Rattle.layer_parts.specs.LayerWords.{LayerWords}
+use Rattle.texts.specs.Growth.{SinkState, Wrote, Cut}
+use Rattle.sync_types.specs.Codes.{code_of}
+use Rattle.sync_types.specs.declared.status.Status.TheVariants as status
 use Rattle.machines.specs.Machines.{Machine}
 use Rattle.machine_runner.specs.Locks.{is_locked}
-use Rattle.machine_lines.specs.RunTexts.{run_text}
-use Rattle.machine_lines.specs.HoldTexts.{hold_text}
+use Rattle.machine_runner.specs.ShownTexts.{run_text}
+use Rattle.machine_runner.specs.HoldTexts.{hold_text}
 use Rattle.slot_table.specs.declared.lines.SlotLine.{SlotLine}
 use Rattle.layer_runner.specs.Counters.{machine_counter}
 use Rattle.layer_lines.specs.DecisionTexts.{decision_text}
@@ -17,7 +25,7 @@ use Rattle.firing.specs.declared.requests.Request.{Request}
 use Rattle.replicated_log.specs.LogSaid.{LogSaid}
 use Rattle.node_words.specs.Rules.{rule_word, part_word}
 use Rattle.pulse_plan.specs.Laws.{machine_in}
-use Rattle.pulse_nodes.specs.PulseWords as pulses
+use Rattle.pulse_texts.specs.PulseWords as pulses
 use Rattle.pulse_runs.specs.declared.shown.Shown.{Shown}
 use Rattle.pulse_runs.specs.declared.shown.Shown.TheVariants as shown
 use Rattle.pulse_runs.specs.declared.errors.RunRefusal.{RunRefusal}
@@ -25,7 +33,7 @@ use Rattle.pulse_runs.specs.declared.errors.RunRefusal.TheVariants as refusal
 use Rattle.pulse_runs.specs.declared.errors.PlayError.{PlayError}
 use Rattle.pulse_runs.specs.declared.errors.PlayError.TheVariants as error
 use Rattle.pulse_runs.specs.RunInputs.{Scripted, scripted_of, Layered}
-use Rattle.pulse_runs.specs.LayerInputs.{slotted_of, agreed_of, firing_of, logging_of}
+use Rattle.pulse_runs.specs.LayerInputs.{slotted_of, agreed_of, firing_of, logging_of, layered_by}
 
 -- ---- the line of a refusal
 
@@ -36,6 +44,11 @@ refusal_line (refusal.Part part line rule) = concat (
     ∷ codes " line " ∷ decimal line
     ∷ codes " rule " ∷ rule_word rule
     ∷ codes "\n" ∷ [])
+
+-- and its exit code: 1 of a plan, and else that of the part
+abbrev pub refusal_code : RunRefusal → ℕ
+refusal_code (refusal.Plan line premise) = 1
+refusal_code (refusal.Part part line rule) = code_of (status.PartRefused part line rule)
 
 -- ---- the run of a script on its plan's machine
 
@@ -65,11 +78,22 @@ entries_of read =
     let machine : Machine = machine_in read.plan in
     log_text (machine_counter machine) (is_locked machine) read.script read.said
 
--- what is written of that which was read
+-- what is written of what was read
 abbrev pub told_by : {V : Type 0} → (V → List ℕ) → Result V RunRefusal
     → Result (List ℕ) RunRefusal
 told_by text (Ok read) = Ok (text read)
 told_by text (Err refused) = Err refused
+
+-- the run of an input with a part that says a layer
+abbrev pub layer_run : {Said Kept : Type 0} → Part
+    → (part_over : Numbers → (number : ℕ) → List (List ℕ) → Result (Found Said) (At Rule))
+    → (registers : Said → Option Registers) → LayerWords Said Kept → List ℕ
+    → Result (List ℕ) RunRefusal
+layer_run name part_over registers words input =
+    told_by (λ read.
+    let machine : Machine = machine_in read.plan in
+    words.text (machine_counter machine) (is_locked machine) read.script read.said)
+    (layered_by name part_over registers input)
 
 -- the run of an input, with lines of that kind
 abbrev pub run_of : Shown → List ℕ → Result (List ℕ) RunRefusal
@@ -86,12 +110,12 @@ text_of (Ok text) = text
 text_of (Err refused) = refusal_line refused
 
 -- a run is defined, and was written
-pub record IsPlayed (defined : Result (List ℕ) RunRefusal) (old new : Told) : Type 0 where
+pub record IsPlayed (defined : Result (List ℕ) RunRefusal) (old new : SinkState) : Type 0 where
   pub text : List ℕ
   pub is : defined ≡ Ok text
   pub wrote : Wrote text old new
 
-abbrev pub FailsToPlay : (defined : Result (List ℕ) RunRefusal) (old new : Told) → PlayError
+abbrev pub FailsToPlay : (defined : Result (List ℕ) RunRefusal) (old new : SinkState) → PlayError
     → Type 0
 FailsToPlay defined old new (error.Refused refused) =
     (defined ≡ Err refused) × Wrote (refusal_line refused) old new
@@ -99,13 +123,13 @@ FailsToPlay defined old new error.NoMemory = new ≡ old
 FailsToPlay defined old new error.WriteFault = Cut (text_of defined) old new
 
 -- a text was written, or memory was refused before it
-abbrev pub IsWritten : Result (Unit {0}) PlayError → (text : List ℕ) (old new : Told) → Type 0
+abbrev pub IsWritten : Result (Unit {0}) PlayError → (text : List ℕ) (old new : SinkState) → Type 0
 IsWritten (Ok done) text old new = Wrote text old new
 IsWritten (Err (error.Refused refused)) text old new = ⊥
 IsWritten (Err error.NoMemory) text old new = new ≡ old
 IsWritten (Err error.WriteFault) text old new = Cut text old new
 
--- where memory was refused, the sink is what it was
+-- if memory was refused, the sink is what it was
 abbrev pub KeepsSink : {K : Type 0} → (old new : K) → PlayError → Type 0
 KeepsSink old new error.NoMemory = new ≡ old
 KeepsSink old new other = Unit {0}

@@ -10,7 +10,7 @@ use Rattle.slot_table.specs.SlotTexts.{slots_text}
 use Rattle.consensus_layer.specs.AgreeTexts.{agree_text}
 use Rattle.pulse_plan.specs.Plans.{PulseNumbers, IsAccepted}
 use Rattle.pulse_texts.specs.PulsesTexts.{pulses_text}
-use Rattle.pulse_nodes.specs.PulseShapes.{shape_of}
+use Rattle.pulse_texts.specs.PulseShapes.{shape_of}
 use Rattle.pulse_runs.specs.declared.errors.RunRefusal.{RunRefusal}
 use Rattle.pulse_runs.specs.RunInputs.{scripted_of, Layered}
 use Rattle.pulse_runs.specs.LayerInputs.{slots_shape, slotted_of, agree_shape, agreed_of}
@@ -26,7 +26,7 @@ abbrev pub layered_text : {Said : Type 0} → (text : Said → List ℕ) → Pul
 layered_text text plan said script = pulses_text plan ++ (text said ++ script_text script)
 
 -- The texts of an accepted plan, of what fits it, and of a script for both that a text can say, one
--- behind the other, are read as these. There are no others: what any input is read as, these texts
+-- after the other, are read as these. There are no others: what any input is read as, these texts
 -- are read as.
 pub record LayeredAreRead {Said : Type 0} (layered_of : List ℕ → Result (Layered Said) RunRefusal)
     (text : Said → List ℕ) (shape_for : PulseNumbers → Said → Shape)
@@ -43,7 +43,7 @@ pub record LayeredAreRead {Said : Type 0} (layered_of : List ℕ → Result (Lay
 abbrev pub FitsTable : PulseNumbers → List SlotLine → Type 0
 FitsTable plan table = IsTable plan.nodes plan.modulus table
 
--- So it is of a plan and a script, and with each part between them.
+-- So it is of a plan and a script, and with a slot table or inputs to agree on between them.
 pub record ScriptInputsAreRead : Type 0 where
   pub run : (plan : PulseNumbers) → IsAccepted plan → (script : Script)
       → IsWritableFor plan.nodes plan.faults (shape_of plan) script

@@ -1,13 +1,8 @@
 ghost use Rattle.std.specs.Prelude.{◌≡◌};
-ghost use Rattle.pulse_runs.specs.Readings.{part_refused};
+ghost use Rattle.pulse_runs.specs.Readings.{part_error};
 
-use adversary_script::ScriptError;
-use consensus_layer::AgreeError;
-use edge_io::WriteFault;
-use firing::FireError;
+use edge_io::{PartError, WriteFault};
 use pulse_texts::{LinePremise, PulsesError};
-use replicated_log::LogError;
-use slot_table::SlotError;
 use sync_types::{NoMemory, Part, Rule};
 use thiserror::Error;
 
@@ -21,7 +16,7 @@ pub enum RunRefusal {
         /// The first premise that the line fails.
         premise: LinePremise,
     },
-    /// A line of a part behind the plan.
+    /// A line of a part after the plan.
     Part {
         /// The part.
         part: Part,
@@ -82,74 +77,16 @@ impl From<PulsesError> for PlayError {
     }
 }
 
-/// The refusal of a line of a part.
-fn part_refused(part: Part, line: u64, rule: Rule) -> PlayError
-    ensures { result ≡ part_refused part line rule }
+/// The error of a part that was not read, by the part's name.
+pub(crate) fn unread(part: Part, error: PartError<Rule>) -> PlayError
+    ensures { result ≡ part_error part error }
 {
-    PlayError::Refused(RunRefusal::Part { part, line, rule })
-}
-
-impl From<SlotError> for PlayError {
-    ghost use Rattle.pulse_runs.specs.Readings.{slots_error};
-
-    ghost from_gives = { λ error e. e ≡ slots_error error };
-
-    fn from(error: SlotError) -> Self {
-        match error {
-            SlotError::Refused(refused) => part_refused(Part::Slots, refused.line, refused.rule),
-            SlotError::NoMemory => PlayError::NoMemory,
-        }
-    }
-}
-
-impl From<AgreeError> for PlayError {
-    ghost use Rattle.pulse_runs.specs.Readings.{agree_error};
-
-    ghost from_gives = { λ error e. e ≡ agree_error error };
-
-    fn from(error: AgreeError) -> Self {
-        match error {
-            AgreeError::Refused(refused) => part_refused(Part::Agree, refused.line, refused.rule),
-            AgreeError::NoMemory => PlayError::NoMemory,
-        }
-    }
-}
-
-impl From<FireError> for PlayError {
-    ghost use Rattle.pulse_runs.specs.Readings.{fire_error};
-
-    ghost from_gives = { λ error e. e ≡ fire_error error };
-
-    fn from(error: FireError) -> Self {
-        match error {
-            FireError::Refused(refused) => part_refused(Part::Fire, refused.line, refused.rule),
-            FireError::NoMemory => PlayError::NoMemory,
-        }
-    }
-}
-
-impl From<LogError> for PlayError {
-    ghost use Rattle.pulse_runs.specs.Readings.{log_error};
-
-    ghost from_gives = { λ error e. e ≡ log_error error };
-
-    fn from(error: LogError) -> Self {
-        match error {
-            LogError::Refused(refused) => part_refused(Part::Log, refused.line, refused.rule),
-            LogError::NoMemory => PlayError::NoMemory,
-        }
-    }
-}
-
-impl From<ScriptError> for PlayError {
-    ghost use Rattle.pulse_runs.specs.Readings.{script_error};
-
-    ghost from_gives = { λ error e. e ≡ script_error error };
-
-    fn from(error: ScriptError) -> Self {
-        match error {
-            ScriptError::Refused(refused) => part_refused(Part::Script, refused.line, refused.rule),
-            ScriptError::NoMemory => PlayError::NoMemory,
-        }
+    match error {
+        PartError::Refused(refused) => PlayError::Refused(RunRefusal::Part {
+            part,
+            line: refused.line,
+            rule: refused.rule,
+        }),
+        PartError::NoMemory => PlayError::NoMemory,
     }
 }

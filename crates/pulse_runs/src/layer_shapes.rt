@@ -1,14 +1,16 @@
-ghost use Rattle.std.specs.Prelude.{◌≡◌, ◌≤◌, ◌++◌, length, replicate, IfOk};
+ghost use Rattle.std.specs.Prelude.{◌≡◌, ◌≤◌, ◌++◌, length, replicate, IfOk, IfSome};
 ghost use Rattle.state_codec.specs.Shapes.{bits_in, with_further};
-ghost use Rattle.pulse_runs.specs.LayerShapes.{shape_with};
+ghost use Rattle.layer_parts.specs.CounterParts.{AreFew};
+ghost use Rattle.pulse_runs.specs.LayerShapes.{shape_with, shape_for};
 
-use pulse_machine::all_nodes_fields;
-use pulse_plan::PulsePlan;
+use layer_parts::Registers;
+use pulse_plan::{PulsePlan, all_nodes_fields};
+use pulse_texts::shape_of;
 use state_codec::{Fields, StateShape};
 use std::alloc::{AllocError, Global};
 use sync_types::NoMemory;
 
-/// The moduli of `depth` registers, and behind them those of `count` further ones.
+/// The moduli of `depth` registers, and after them those of `count` further ones.
 fn moduli_with(
     alloc: Global,
     own: &Fields,
@@ -30,7 +32,7 @@ fn moduli_with(
     Ok(moduli)
 }
 
-/// The fields of states of `depth` registers, with `count` further ones behind, at most 2, whose
+/// The fields of states of `depth` registers, with `count` further ones after, at most 2, whose
 /// values are those below `values`, at most 65536.
 fn fields_with(
     alloc: Global,
@@ -45,7 +47,7 @@ fn fields_with(
     requires few { count ≤ 2 }
     ensures { IfOk result (λ fields. fields ≡ with_further own.now values count) }
 {
-    own.tell();
+    own.facts();
     let moduli = moduli_with(alloc, own, depth, values, count)?;
     Fields::new(alloc, own.base(), moduli)
 }
@@ -53,7 +55,7 @@ fn fields_with(
 /// The shape of a plan's states with `count` further registers after the plan's, at most 2, which
 /// every node has and whose values are those below `values`, 2 to 65536. The only error is want of
 /// memory.
-pub(crate) fn shape_with(
+fn shape_with(
     alloc: Global,
     plan: &PulsePlan,
     values: u64,
@@ -64,7 +66,7 @@ pub(crate) fn shape_with(
     requires few { count ≤ 2 }
     ensures { IfOk result (λ shape. shape ≡ shape_with plan.now values count) }
 {
-    plan.tell();
+    plan.facts();
     let depth = plan.depth();
     let own = all_nodes_fields(alloc, plan)?;
     let mut fields = Vec::with_capacity(alloc, own.len())?;
@@ -73,4 +75,20 @@ pub(crate) fn shape_with(
         fields.push(more).map_err(|_| NoMemory)?;
     }
     StateShape::by_node(alloc, depth + count, &fields)
+}
+
+/// The shape of a plan's states, with these registers after the plan's. The only error is want of
+/// memory.
+pub(crate) fn shape_for(
+    alloc: Global,
+    plan: &PulsePlan,
+    registers: Option<Registers>,
+) -> Result<StateShape, NoMemory>
+    requires { IfSome registers AreFew }
+    ensures { IfOk result (λ shape. shape ≡ shape_for plan.now registers) }
+{
+    match registers {
+        None => shape_of(alloc, plan),
+        Some(more) => shape_with(alloc, plan, more.values, more.count),
+    }
 }

@@ -1,6 +1,6 @@
-//! Plays a script on a pulse plan: an input is read as a plan and a script for it, also with a slot
-//! table between them, the script is played on the plan's machine, and what its nodes show, or
-//! which of them hold, is written; and what holds of each such run.
+//! Plays a script on a pulse plan: an input is read as a plan and a script for it, perhaps with a
+//! slot table or the part of a layer between them, the script is played on the plan's machine, and
+//! what comes of it is written; and what holds of each such run.
 #![tactic(auto)]
 
 mod errors;

@@ -1,20 +1,22 @@
-ghost use Rattle.std.specs.Prelude.{◌≡◌, ◌≤◌, ◌^◌, length, MatchResult, IfErr};
-ghost use Rattle.machine_lines.specs.RunTexts.{shown_text};
+ghost use Rattle.std.specs.Prelude.{◌≡◌, MatchResult, IfErr};
+ghost use Rattle.machine_runner.specs.ShownTexts.{shown_text};
 ghost use Rattle.pulse_plan.specs.Laws.{machine_in};
 ghost use Rattle.machine_runner.specs.Laws.{IsReadFor};
 ghost use Rattle.pulse_runs.specs.RunTexts.{IsPlayed, FailsToPlay, IsWritten, KeepsSink, run_of};
 ghost use Rattle.pulse_runs.specs.declared.shown.Shown.TheVariants as shown;
 
 use crate::errors::PlayError;
-use crate::layer_playing::{play_decisions, play_entries, play_fires};
+use crate::layer_playing::play_layer;
 use crate::reading::{read_scripted, read_slotted};
-use crate::refusals::tell;
+use crate::refusals::put_error;
 use crate::shown::Shown;
 use adversary_script::Script;
+use consensus_layer::Agreement;
 use edge_io::Sink;
-use machine_lines::{HoldLines, Rows, ShownLines, put_shown};
-use machine_runner::Runner;
-use pulse_machine::PulseMachine;
+use firing::Firing;
+use machine_runner::{HoldLines, Rows, Runner, ShownLines, put_shown};
+use pulse_plan::PulseMachine;
+use replicated_log::Replica;
 use state_codec::StateShape;
 use std::alloc::Global;
 
@@ -41,7 +43,6 @@ fn play_on<K: Sink, L: ShownLines>(
 
 /// Plays the script of an input, and writes what the nodes show.
 fn play_rows<K: Sink>(alloc: Global, input: &[u8], sink: &mut K) -> Result<(), PlayError>
-    requires { length input.now ≤ 2 ^ 20 }
     ensures does { MatchResult result
         (λ _. IsPlayed (run_of shown.Rows input.now) (K.told sink.old) (K.told sink.new))
         (FailsToPlay (run_of shown.Rows input.now) (K.told sink.old) (K.told sink.new)) }
@@ -49,13 +50,12 @@ fn play_rows<K: Sink>(alloc: Global, input: &[u8], sink: &mut K) -> Result<(), P
 {
     match read_scripted(alloc, input) {
         Ok((machine, shape, script)) => play_on(alloc, &machine, shape, script, &Rows, sink),
-        Err(error) => Err(tell(sink, error)),
+        Err(error) => Err(put_error(sink, error)),
     }
 }
 
 /// Plays the script of an input, and writes which nodes hold.
 fn play_holds<K: Sink>(alloc: Global, input: &[u8], sink: &mut K) -> Result<(), PlayError>
-    requires { length input.now ≤ 2 ^ 20 }
     ensures does { MatchResult result
         (λ _. IsPlayed (run_of shown.Holds input.now) (K.told sink.old) (K.told sink.new))
         (FailsToPlay (run_of shown.Holds input.now) (K.told sink.old) (K.told sink.new)) }
@@ -65,25 +65,24 @@ fn play_holds<K: Sink>(alloc: Global, input: &[u8], sink: &mut K) -> Result<(), 
         Ok((table, (machine, shape, script))) => {
             play_on(alloc, &machine, shape, script, &HoldLines { table }, sink)
         }
-        Err(error) => Err(tell(sink, error)),
+        Err(error) => Err(put_error(sink, error)),
     }
 }
 
 /// Reads an input as a pulse plan and a script for it, plays the script on the plan's machine, and
-/// writes the bound, a line of each configuration that is shown, and the first locked configuration
-/// of each era. A slot table stands between plan and script where the lines are of who holds. Of an
-/// input that is refused it writes the line of the refusal.
+/// writes the bound, the lines that `shown` asks for, and the first locked configuration of each
+/// era. Between plan and script stands the part that these lines need, if any. Of an input that is
+/// refused it writes the line of the refusal.
 ///
 /// `Refused` names the first line that fails, and why; the line of the refusal was written. At
-/// `NoMemory` nothing was written. `WriteFault` comes only where the sink counted a fault; a front
-/// of the text was then taken.
+/// `NoMemory` nothing was written. `WriteFault` comes only if the sink counted a fault; a prefix of
+/// the text was then taken.
 pub fn play<K: Sink>(
     alloc: Global,
     shown: Shown,
     input: &[u8],
     sink: &mut K,
 ) -> Result<(), PlayError>
-    requires { length input.now ≤ 2 ^ 20 }
     ensures does { MatchResult result
         (λ _. IsPlayed (run_of shown input.now) (K.told sink.old) (K.told sink.new))
         (FailsToPlay (run_of shown input.now) (K.told sink.old) (K.told sink.new)) }
@@ -92,8 +91,8 @@ pub fn play<K: Sink>(
     match shown {
         Shown::Rows => play_rows(alloc, input, sink),
         Shown::Holds => play_holds(alloc, input, sink),
-        Shown::Decisions => play_decisions(alloc, input, sink),
-        Shown::Fires => play_fires(alloc, input, sink),
-        Shown::Entries => play_entries(alloc, input, sink),
+        Shown::Decisions => play_layer::<Agreement, K>(alloc, input, sink),
+        Shown::Fires => play_layer::<Firing, K>(alloc, input, sink),
+        Shown::Entries => play_layer::<Replica, K>(alloc, input, sink),
     }
 }

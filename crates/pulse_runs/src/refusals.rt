@@ -8,6 +8,23 @@ use crate::errors::{PlayError, RunRefusal};
 use edge_io::{Piece, Sink, WriteFault, put_pieces};
 use node_words::{part_word, rule_word};
 use pulse_texts::PulsesRefusal;
+use sync_types::Status;
+
+impl RunRefusal {
+    ghost use Rattle.pulse_runs.specs.RunTexts.{refusal_code};
+
+    /// The exit code of a program that refuses an input so.
+    pub fn code(self) -> u8
+        ensures { result ≡ refusal_code self }
+    {
+        match self {
+            RunRefusal::Plan { .. } => 1,
+            RunRefusal::Part { part, line, rule } => {
+                Status::PartRefused { part, line, rule }.code()
+            }
+        }
+    }
+}
 
 /// Writes the line of a refusal.
 pub fn put_refusal<K: Sink>(sink: &mut K, refusal: RunRefusal) -> Result<(), WriteFault>
@@ -15,7 +32,7 @@ pub fn put_refusal<K: Sink>(sink: &mut K, refusal: RunRefusal) -> Result<(), Wri
 {
     match refusal {
         RunRefusal::Plan { line, premise } => {
-            pulse_nodes::put_refusal(sink, PulsesRefusal { line, premise })
+            pulse_texts::put_refusal(sink, PulsesRefusal { line, premise })
         }
         RunRefusal::Part { part, line, rule } => put_pieces(
             sink,
@@ -32,9 +49,8 @@ pub fn put_refusal<K: Sink>(sink: &mut K, refusal: RunRefusal) -> Result<(), Wri
     }
 }
 
-/// Tells why an input was not read, where it is refused: it writes the line of the refusal. The
-/// answer is how that ends.
-pub(crate) fn tell<K: Sink>(sink: &mut K, error: PlayError) -> PlayError
+/// Writes the line of the refusal, if the error is one. The answer is how that ends.
+pub(crate) fn put_error<K: Sink>(sink: &mut K, error: PlayError) -> PlayError
     ensures told { (defined : Result (List ℕ) RunRefusal) → Refuses error defined
         → FailsToPlay defined (K.told sink.old) (K.told sink.new) result }
     ensures untouched { KeepsSink sink.old sink.new result }

@@ -1,4 +1,4 @@
-/// What is written of each configuration of a run that is shown.
+/// Which lines are written of a run.
 #[derive(Clone, Copy, Debug, PartialEq, Eq)]
 pub enum Shown {
     /// A row of what the nodes show.

@@ -1,4 +1,4 @@
--- A plan is accepted exactly where it fails no premise.
+-- A plan is accepted exactly if it fails no premise.
 use Rattle.std.proofs.Common.{◌≡◌, None, arith}
 use Rattle.std.proofs.lemmas.Bool.Decides.{nat_tests}
 use Rattle.pulse_plan.specs.Plans.{PulseNumbers, first_premise, IsAccepted}

@@ -1,19 +1,11 @@
 -- What a text is compared with stands in the buffer.
-use Rattle.std.proofs.Common.{◌≡◌, ℕ, List, [], Option, Some, ap, ◌∙◌}
+use Rattle.std.proofs.Common.{◌≡◌, ℕ, List, Option, Some, ap, ◌∙◌}
 use Rattle.texts.specs.Lines.{lines_of}
-use Rattle.texts.specs.Growth.{Wrote}
 use Rattle.pulse_plan.specs.Plans.{PulseNumbers}
-use Rattle.pulse_texts.specs.Buffers.{BufferState, buffer_told}
 use Rattle.pulse_texts.specs.Tables.{table_text}
 use Rattle.pulse_texts.specs.Reading.{differs_at, stated_in, unless_differs, compared, table_of}
 
--- a buffer that was empty holds what was written
-pub holds : (text : List ℕ) (new : BufferState)
-    → Wrote text (buffer_told (record { taken = []; faults = 0 })) (buffer_told new)
-    → new.taken ≡ text
-holds text new wrote = let bytes = wrote.bytes in cc
-
--- the table that is defined, where the second line states a plan and the first difference is known
+-- the table that is defined, if the second line states a plan and the first difference is known
 pub compared_is : (text : List ℕ) (plan : PulseNumbers) (line : Option ℕ)
     → stated_in (lines_of text) ≡ Some plan → differs_at 1 text (table_text plan) ≡ line
     → table_of text ≡ unless_differs line plan

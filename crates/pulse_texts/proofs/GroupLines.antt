@@ -27,7 +27,7 @@ alone_lines (suc d) group none =
     ap (λ b. group_line group ++ inner_lines b d group) (is_alone group.faults none)
     ∙ append-nil (group_line group)
 
--- where each depth that is enough gives the halves the same lines, it does so of the group
+-- if each depth that is enough gives the halves the same lines, it does so of the group
 same_by : (alone : Bool) (d e : ℕ) (group : PulseGroup) → (group.faults == 0) ≡ alone
     → (alone ≡ false → lines_within d (left_of group) ≡ lines_within e (left_of group))
     → (alone ≡ false → lines_within d (right_of group) ≡ lines_within e (right_of group))
@@ -50,9 +50,6 @@ same_lines (suc d) (suc e) group l m =
     same_lines d e (left_of group) (omega (arith, l, some)) (omega (arith, m, some)))
     (λ more. let some = some_faults group.faults (group.faults == 0) refl more in
     same_lines d e (right_of group) (omega (arith, l, some)) (omega (arith, m, some))))
-
-pub lines_alone : (group : PulseGroup) → group.faults ≡ 0 → group_lines group ≡ group_line group
-lines_alone group none = alone_lines group.faults group none
 
 lines_by : (f : ℕ) (group : PulseGroup) → group.faults ≡ f → 0 < f
     → lines_within f group

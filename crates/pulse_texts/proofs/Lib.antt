@@ -1,3 +1,9 @@
+pub mod Headers
+pub mod Inputs
+pub mod Used
+pub mod Shaped
+pub mod PlanBits
+pub mod HeaderTexts
 pub mod Accepted
 pub mod ReadBack
 pub mod Rewritten

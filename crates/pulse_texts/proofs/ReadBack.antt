@@ -115,7 +115,7 @@ module _ (plan : PulseNumbers) (small : AreSmall plan) where
       ap (λ (ns : Option (List ℕ)). goes_with (plan_by ns)) group_numbers
       ∙ ap (λ (p : Option PulsePremise). goes_with (unless_fails p plan)) none
 
--- the text is read at the front of any text
+-- the text is read at the beginning of any text
 pub text_is_read : PulsesTextIsRead
 text_is_read plan rest accepted =
     let small = are_small plan accepted in

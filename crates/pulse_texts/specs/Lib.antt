@@ -1,3 +1,7 @@
+pub mod PulseWords
+pub mod NodePromises
+pub mod PulseShapes
+pub mod HeaderTexts
 pub mod PulsesPart
 pub mod PulsesRefusals
 pub mod PulsesTexts

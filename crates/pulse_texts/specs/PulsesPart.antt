@@ -40,13 +40,13 @@ pulses_step Unread line = if bytes_eq line (codes "pulses 1") then goes Begun el
 pulses_step Begun line = goes_with (plan_in line)
 pulses_step (Stated plan) line = if bytes_eq line (codes "end") then ends plan else refuses Form
 
--- The pulses part at the front of an input: its plan, how many lines it has through `end`, and the
--- lines after it; or the first line that fails, with the first premise that it fails.
+-- The pulses part at the beginning of an input: its plan, how many lines it has through `end`, and
+-- the lines after it; or the first line that fails, with the first premise that it fails.
 abbrev pub pulses_of : List ℕ → Result (Found PulseNumbers) (At LinePremise)
 pulses_of input = part_from (with_skips pulses_step Form) Form Unread 0 1 (lines_of input)
 
--- what stands at the front of an input that was read as this plan, so many bytes through its `end`
--- line, and so many lines
+-- what stands at the beginning of an input that was read as this plan, so many bytes through its
+-- `end` line, and so many lines
 abbrev pub found_in : List ℕ → PulseNumbers × ℕ × ℕ → Found PulseNumbers
 found_in input (plan, bytes, lines) =
     record { value = plan; taken = lines; behind = lines_of (drop bytes input) }

@@ -15,7 +15,7 @@ pulses_text plan = concat (
     ∷ codes "\n"
     ∷ codes "end\n" ∷ [])
 
--- The text of an accepted plan is read as that plan, at the front of any text,
+-- The text of an accepted plan is read as that plan, at the beginning of any text,
 abbrev pub PulsesTextIsRead : Type 0
 PulsesTextIsRead =
     (plan : PulseNumbers) (rest : List ℕ) → IsAccepted plan

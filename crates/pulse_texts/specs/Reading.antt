@@ -10,8 +10,7 @@ use Rattle.pulse_texts.specs.declared.table_reading.TableError.{TableError}
 use Rattle.pulse_texts.specs.declared.table_reading.TableError.TheVariants as table
 use Rattle.pulse_texts.specs.Tables.{table_text}
 
--- the line in which the first byte stands at which two texts differ, where the first line has this
--- number
+-- the line of the first byte at which two texts differ, if the first line has this number
 abbrev pub differs_at : (number : ℕ) → (text other : List ℕ) → Option ℕ
 differs_at number [] [] = None
 differs_at number [] (y ∷ ys) = Some number
@@ -29,7 +28,7 @@ plan_with n f c =
     let plan : PulseNumbers = record { nodes = n; faults = f; modulus = c } in
     unless_fails (first_premise plan) plan
 
--- the same, where each of them is a number
+-- the same, if each of them is a number
 abbrev pub plan_by : (nodes faults modulus : Option ℕ) → Option PulseNumbers
 plan_by (Some n) (Some f) (Some c) = plan_with n f c
 plan_by n f c = None
@@ -54,13 +53,13 @@ abbrev pub unless_differs : Option ℕ → PulseNumbers → Result PulseNumbers 
 unless_differs None plan = Ok plan
 unless_differs (Some line) plan = Err line
 
--- the plan, where the text is its table
+-- the plan, if the text is its table
 abbrev pub compared : List ℕ → Option PulseNumbers → Result PulseNumbers ℕ
 compared text None = Err (unstated text)
 compared text (Some plan) = unless_differs (differs_at 1 text (table_text plan)) plan
 
 -- The plan whose table the text is; or its first line that differs from the table of the plan that
--- its second line states, and from each table where it states none.
+-- its second line states, and from each table if it states none.
 abbrev pub table_of : List ℕ → Result PulseNumbers ℕ
 table_of text = compared text (stated_in (lines_of text))
 

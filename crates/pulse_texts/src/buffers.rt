@@ -2,7 +2,7 @@ use edge_io::{Failed, Sink};
 use std::alloc::Global;
 use std::marker::Model;
 
-/// A text in memory, which grows. A write fails only where memory is refused.
+/// A text in memory, which grows. A write fails only if memory is refused.
 #[derive(Drop)]
 pub struct TextBuffer {
     taken: Vec<u8>,

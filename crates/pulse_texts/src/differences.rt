@@ -1,7 +1,7 @@
 ghost use Rattle.std.specs.Prelude.{◌≡◌, ◌<◌, ◌^◌, length};
 ghost use Rattle.pulse_texts.specs.Reading.{differs_at};
 
-/// The line in which the first byte stands at which two texts differ, None where they are the same.
+/// The line of the first byte at which two texts differ, None if they are the same.
 pub fn differs_at(text: &[u8], other: &[u8]) -> Option<u64>
     ensures { result ≡ differs_at 1 text.now other.now }
 {

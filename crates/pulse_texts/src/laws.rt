@@ -3,7 +3,7 @@
 ghost use Rattle.pulse_texts.specs.PulsesTexts.{PulsesTextIsRead, PulsesTextIsWhole};
 ghost use Rattle.pulse_texts.specs.PulsesTexts.{AcceptedTextsAreRewritten};
 
-/// The text of an accepted plan is read as that plan: at the front of any text, and alone.
+/// The text of an accepted plan is read as that plan: at the beginning of any text, and alone.
 pub fn pulses_texts_read_back()
     ensures part { PulsesTextIsRead }
     ensures whole { PulsesTextIsWhole }

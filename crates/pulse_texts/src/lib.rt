@@ -1,10 +1,10 @@
-//! The texts of a pulse plan: its part of an input, and its table.
+//! The texts of a pulse plan: its part of an input, its table, and the header of one of its nodes.
 //!
 //! A pulses part is the line `pulses 1`, the line `group N F C` with how many nodes there are, how
 //! many may be faulty, and the modulus that they count by, and the line `end`. Empty lines and
-//! lines that begin with `#` are skipped. It is read at the front of an input, as the whole of an
-//! input, or line by line, as from a feed; and it is written. The first line that fails is refused,
-//! with the first premise that it fails. No memory is taken.
+//! lines that begin with `#` are skipped. It is read at the beginning of an input, as the whole of
+//! an input, or line by line, as from a feed; and it is written. The first line that fails is
+//! refused, with the first premise that it fails. No memory is taken.
 //!
 //! A table has the plan's numbers, and those of each of its groups: the lines `table pulses 1`,
 //! `plan nodes N faults F modulus C`, and `bound T levels L bits W bytes Y`, where W and Y are
@@ -13,14 +13,24 @@
 //! spares S`, with its first node, what its halves count by and how many of its nodes are in none
 //! of them, or, for a node alone, `group V nodes 1 faults 0 modulus C`; then `end`. Each line ends
 //! with a newline. A table is read back, and refused at its first line that is not as it has to be.
+//!
+//! A header is a pulses part, and then the part of a node with its id and state. [`PulseNodes`] are
+//! the nodes that read a header and packets; [`node_laws`] has what calls of them promise if they
+//! are given one another's cells.
 #![tactic(auto)]
 
 mod buffers;
 mod differences;
+pub mod header_laws;
 mod laws;
+pub mod node_laws;
+mod node_refusals;
+mod nodes;
 mod premises;
+mod readers;
 mod reading;
 mod refusals;
+mod shapes;
 mod stages;
 mod table_laws;
 mod table_reading;
@@ -29,9 +39,13 @@ mod taking;
 mod writing;
 
 pub use laws::{accepted_texts_are_rewritten, pulses_texts_read_back};
+pub use node_refusals::put_refusal;
+pub use nodes::PulseNodes;
 pub use premises::LinePremise;
+pub use readers::{PulsesHeader, read_pulses_header};
 pub use reading::{read_pulses, read_whole_pulses};
 pub use refusals::{PulsesError, PulsesRefusal};
+pub use shapes::shape_of;
 pub use stages::PulsesLines;
 pub use table_laws::tables_read_back;
 pub use table_reading::{TableError, read_table};

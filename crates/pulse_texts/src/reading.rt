@@ -9,8 +9,8 @@ use edge_io::read_part;
 use plan_reader::first_unskipped;
 use pulse_plan::PulsePlan;
 
-/// Reads the pulse plan at the front of an input: the plan, how many bytes stand through its `end`
-/// line, that line's newline among them, and how many lines these are, skipped ones counted.
+/// Reads the pulse plan at the beginning of an input: the plan, how many bytes stand through its
+/// `end` line, that line's newline among them, and how many lines these are, skipped ones counted.
 ///
 /// `Refused` is the first line that fails with the first premise that it fails. A part that lacks
 /// its `end` is refused `Form` at the line after the last.

@@ -7,8 +7,8 @@ use thiserror::Error;
 /// The line of a pulses part that is refused, and why.
 #[derive(Clone, Copy, Debug, PartialEq, Eq)]
 pub struct PulsesRefusal {
-    /// The line's number, from 1, skipped lines counted. Where the part lacks its end it is the
-    /// line after the last.
+    /// The line's number, from 1, skipped lines counted. If the part lacks its end, it is the line
+    /// after the last.
     pub line: u64,
     /// The first premise that the line fails.
     pub premise: LinePremise,

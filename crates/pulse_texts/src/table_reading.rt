@@ -49,7 +49,7 @@ fn stated_by(line: &[u8]) -> Option<PulsePlan>
     plan_with(number(nodes)?, number(faults)?, number(modulus)?)
 }
 
-/// The plan that a table's second line states, where it has one.
+/// The plan that a table's second line states, if it has one.
 fn stated_in(text: &[u8]) -> Option<PulsePlan>
     ensures { result ≡ stated_in (lines_of text.now) }
 {
@@ -64,7 +64,7 @@ fn stated_in(text: &[u8]) -> Option<PulsePlan>
     stated_by(second)
 }
 
-/// The first line of a text that differs from each table, where its second line states no plan.
+/// The first line of a text that differs from each table, if its second line states no plan.
 fn unstated(text: &[u8]) -> u64
     ensures { result ≡ unstated text.now }
 {
@@ -90,7 +90,7 @@ fn table_in(alloc: Global, plan: &PulsePlan) -> Result<TextBuffer, TableError>
 /// Reads a table: the plan whose table it is.
 ///
 /// `Differs` is the first line that differs from the table of the plan that the second line states,
-/// or from each table where it states none. `NoMemory` comes where memory was refused.
+/// or from each table if it states none. `NoMemory` comes if memory was refused.
 pub fn read_table(alloc: Global, text: &[u8]) -> Result<PulsePlan, TableError>
     ensures { MatchResult result
         (λ plan. table_of text.now ≡ Ok plan)

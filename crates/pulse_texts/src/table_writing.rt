@@ -3,7 +3,7 @@ ghost use Rattle.texts.specs.Growth.{Puts};
 ghost use Rattle.pulse_texts.specs.Tables.{plan_line, sizes_line, group_front, halves_end};
 ghost use Rattle.pulse_texts.specs.Tables.{spares_of, group_line, group_lines, table_text};
 
-use edge_io::{Gathered, Piece, Sink, WriteFault, put_all, put_pieces};
+use edge_io::{Piece, Sink, WriteFault, Writer, put_all, put_pieces};
 use pulse_plan::{Group, PulsePlan, levels, state_bits, state_bytes};
 
 fn put_plan<K: Sink>(sink: &mut K, plan: &PulsePlan) -> Result<(), WriteFault>
@@ -65,7 +65,7 @@ fn spares(group: &Group) -> u64
     requires { 0 < group.now.faults }
     ensures { result ≡ spares_of group.now }
 {
-    group.tell();
+    group.facts();
     u64::from(group.nodes() - group.left().nodes() - group.right().nodes())
 }
 
@@ -120,14 +120,14 @@ fn put_table<K: Sink>(sink: &mut K, plan: &PulsePlan) -> Result<(), WriteFault>
     put_all(sink, b"end\n")
 }
 
-/// Writes the table of a plan. It takes no memory, and a text of at most 8192 bytes is one write
-/// where the sink takes it whole.
+/// Writes the table of a plan. It takes no memory, and a text of at most 8192 bytes is one write if
+/// the sink takes it whole.
 ///
-/// `WriteFault` comes only where the sink counted a fault; a prefix of the text was then taken.
+/// `WriteFault` comes only if the sink counted a fault; a prefix of the text was then taken.
 pub fn write_table<K: Sink>(plan: &PulsePlan, sink: &mut K) -> Result<(), WriteFault>
     ensures { Puts result (table_text plan.now) (K.told sink.old) (K.told sink.new) }
 {
-    let mut lines = Gathered::new(sink);
+    let mut lines = Writer::gathering(sink);
     let written = put_table(&mut lines, plan);
-    lines.finish(written)
+    lines.finish_with(written)
 }

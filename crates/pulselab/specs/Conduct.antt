@@ -1,60 +1,53 @@
--- What a call did to its source and its sink.
-use Rattle.std.specs.Prelude.{◌≡◌, ℕ, List, Option, Some, None}
-use Rattle.texts.specs.Growth.{Told, Wrote, Cut}
-use Rattle.pulselab.specs.declared.faults.LabError.{LabError}
-use Rattle.pulselab.specs.declared.faults.LabError.TheVariants as error
+-- What a call did to its source and its sink for what its words ask for.
+use Rattle.std.specs.Prelude.{◌≡◌, ℕ, List, Option, Result}
+use Rattle.texts.specs.Growth.{SinkState}
+use Rattle.program_words.specs.Asked.{asked_by}
+use Rattle.program_words.specs.Conduct as program
+use Rattle.program_words.specs.Conduct.{DoesWhole}
+use Rattle.program_words.specs.declared.asked.Asked.{Asked}
+use Rattle.program_words.specs.declared.asked.Asked.TheVariants as asked
+use Rattle.program_words.specs.declared.errors.ProgramError.{ProgramError}
+use Rattle.program_words.specs.declared.errors.ProgramError.TheVariants as error
+use Rattle.pulselab.specs.Answers.{answer_of, WritesAnswer}
+use Rattle.pulselab.specs.HelpText.{help_text, version_text}
+use Rattle.pulselab.specs.NodeWord.{ServesNode}
+use Rattle.pulselab.specs.Requests.{request_of}
+use Rattle.pulselab.specs.declared.reasons.LabReason.{LabReason}
 use Rattle.pulselab.specs.declared.requests.Request.{Request}
 use Rattle.pulselab.specs.declared.requests.Request.TheVariants as request
-use Rattle.pulselab.specs.HelpText.{help_text, version_text}
-use Rattle.pulselab.specs.WholeWord.{WholeDone, WholeFails}
-use Rattle.pulselab.specs.WholeWords.{IsDone, FailsOn}
-use Rattle.pulselab.specs.NodeWord.{NodeDone, NodeFails}
 
--- nothing was read
-pub record IsUnread (left left' : Option (List ℕ)) (before now : ℕ) : Type 0 where
-  pub same : left' ≡ left
-  pub still : now ≡ before
+abbrev pub asked_of : (words : List (List ℕ)) → Asked Request
+asked_of words = asked_by words (request_of words)
 
--- a text that does not depend on the input was cut
-abbrev pub IsCut : (text : List ℕ) (left left' : Option (List ℕ)) (before now : ℕ) (old new : Told)
-    → LabError → Type 0
-IsCut text left left' before now old new error.WriteFault =
-    IsUnread left left' before now × Cut text old new
-IsCut text left left' before now old new other = ⊥
+-- What was done for a request, by how it ended: the bytes that the source has left, its count of
+-- faults, and what the sink tells, each before and after.
+abbrev pub DoesRequest : {T : Type 0} → Result T (ProgramError LabReason) → Request
+    → (left left' : Option (List ℕ)) (before now : ℕ) (old new : SinkState) → Type 0
+DoesRequest result (request.Whole word) left left' before now old new =
+    DoesWhole (λ input. WritesAnswer (answer_of word input)) result left left' before now old new
+DoesRequest result request.Node left left' before now old new =
+    ServesNode result left left' before now old new
 
--- the answer was written, all of it
-abbrev pub Answers : Option Request → (left left' : Option (List ℕ)) (before now : ℕ)
-    (old new : Told) → Type 0
-Answers None left left' before now old new = ⊥
-Answers (Some request.Help) left left' before now old new =
-    IsUnread left left' before now × Wrote help_text old new
-Answers (Some request.Version) left left' before now old new =
-    IsUnread left left' before now × Wrote version_text old new
-Answers (Some (request.Whole word)) left left' before now old new =
-    WholeDone (IsDone word) left left' before now old new
-Answers (Some request.Node) left left' before now old new =
-    NodeDone left left' before now old new
+-- and for words
+abbrev pub DoesAsked : {T : Type 0} → (words : List (List ℕ)) → Result T (ProgramError LabReason)
+    → (left left' : Option (List ℕ)) (before now : ℕ) (old new : SinkState) → Type 0
+DoesAsked words result left left' before now old new =
+    program.DoesAsked help_text version_text
+    (λ request. DoesRequest result request left left' before now old new)
+    (asked_of words) result old new
 
--- words that read nothing leave the source as it was, whatever it tells
-abbrev pub LeavesUnread : {S : Type 0} → Option Request → (old new : S) → Type 0
-LeavesUnread (Some (request.Whole word)) old new = Unit {0}
-LeavesUnread (Some request.Node) old new = Unit {0}
-LeavesUnread other old new = new ≡ old
+-- ---- what was not touched, also if a sink tells nothing
 
--- the words ask for nothing, and nothing was done
-abbrev pub IsUsage : (left left' : Option (List ℕ)) (before now : ℕ) (old new : Told)
-    → LabError → Type 0
-IsUsage left left' before now old new error.Usage = IsUnread left left' before now × (new ≡ old)
-IsUsage left left' before now old new other = ⊥
+-- Nothing is written if it ends so.
+abbrev pub KeepsSink : {K : Type 0} → (old new : K) → ProgramError LabReason → Type 0
+KeepsSink old new error.Usage = new ≡ old
+KeepsSink old new error.NoMemory = new ≡ old
+KeepsSink old new error.ReadFault = new ≡ old
+KeepsSink old new error.TooLong = new ≡ old
+KeepsSink old new other = Unit {0}
 
-abbrev pub Fails : Option Request → (left left' : Option (List ℕ)) (before now : ℕ)
-    (old new : Told) → LabError → Type 0
-Fails None left left' before now old new error = IsUsage left left' before now old new error
-Fails (Some request.Help) left left' before now old new error =
-    IsCut help_text left left' before now old new error
-Fails (Some request.Version) left left' before now old new error =
-    IsCut version_text left left' before now old new error
-Fails (Some (request.Whole word)) left left' before now old new error =
-    WholeFails (FailsOn word) left left' before now old new error
-Fails (Some request.Node) left left' before now old new error =
-    NodeFails left left' before now old new error
+-- A node that loses its input, or is given too much, has written its cells before.
+abbrev pub KeptAt : {K : Type 0} → Asked Request → (old new : K) → ProgramError LabReason → Type 0
+KeptAt (asked.Request request.Node) old new error.ReadFault = Unit {0}
+KeptAt (asked.Request request.Node) old new error.TooLong = Unit {0}
+KeptAt asked old new error = KeepsSink old new error

@@ -1,10 +1,7 @@
 pub mod HelpText
 pub mod Requests
-pub mod Faults
-pub mod WholeWord
-pub mod PlanWord
-pub mod RunWord
-pub mod WholeWords
+pub mod Reasons
+pub mod Answers
 pub mod NodeWord
 pub mod Conduct
 pub mod Worked

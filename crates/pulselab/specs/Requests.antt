@@ -1,5 +1,4 @@
--- What the words ask for: `plan`, `run`, `slots`, `consensus`, `fire`, `log`, `node`, `--help` or
--- `--version`.
+-- What the words ask for: `plan`, `run`, `slots`, `consensus`, `fire`, `log` or `node`.
 use Rattle.std.specs.Prelude.{ℕ, List, [], ◌∷◌, Option, Some, None, codes, if◌then◌else◌}
 use Rattle.std.specs.Str.{bytes_eq}
 use Rattle.pulse_runs.specs.declared.shown.Shown.TheVariants as shown
@@ -8,11 +7,9 @@ use Rattle.pulselab.specs.declared.requests.Request.TheVariants as request
 use Rattle.pulselab.specs.declared.requests.Whole.TheVariants as whole
 
 -- what a single word asks for
-abbrev pub asked_alone : List ℕ → Option Request
-asked_alone word =
-    if bytes_eq word (codes "--help") then Some request.Help
-    else if bytes_eq word (codes "--version") then Some request.Version
-    else if bytes_eq word (codes "plan") then Some (request.Whole whole.Plan)
+abbrev pub request_alone : List ℕ → Option Request
+request_alone word =
+    if bytes_eq word (codes "plan") then Some (request.Whole whole.Plan)
     else if bytes_eq word (codes "run") then Some (request.Whole (whole.Play shown.Rows))
     else if bytes_eq word (codes "slots") then Some (request.Whole (whole.Play shown.Holds))
     else if bytes_eq word (codes "consensus") then Some (request.Whole (whole.Play shown.Decisions))
@@ -22,5 +19,5 @@ asked_alone word =
     else None
 
 abbrev pub request_of : List (List ℕ) → Option Request
-request_of (word ∷ []) = asked_alone word
+request_of (word ∷ []) = request_alone word
 request_of words = None

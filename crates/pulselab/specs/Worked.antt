@@ -1,8 +1,8 @@
 -- Worked values: plans with their texts and tables, runs, lines of who holds and of slots, texts
 -- with their refusals, cells of nodes, and the words of the command line, letter by letter.
-use Rattle.std.specs.Prelude.{◌≡◌, ℕ, List, [], ◌∷◌, ◌++◌, map, Some, None, Result, Ok, Err}
-use Rattle.std.specs.Prelude.{codes}
+use Rattle.std.specs.Prelude.{◌≡◌, ℕ, List, [], ◌∷◌, ◌++◌, map, Result, Ok, Err, codes}
 use Rattle.sync_types.specs.declared.answers.Rule.TheVariants as rule
+use Rattle.program_words.specs.declared.asked.Asked.TheVariants as asked
 use Rattle.node_words.specs.declared.headers.HeaderRefusal.TheVariants as header
 use Rattle.node_words.specs.declared.errors.NodeError.{NodeError}
 use Rattle.node_words.specs.declared.errors.NodeError.TheVariants as node
@@ -15,13 +15,13 @@ use Rattle.pulse_texts.specs.declared.premises.LinePremise.TheVariants as line
 use Rattle.pulse_texts.specs.PulsesPart.{whole_pulses_of}
 use Rattle.pulse_texts.specs.PulsesTexts.{pulses_text}
 use Rattle.pulse_texts.specs.Tables.{table_text}
-use Rattle.pulse_nodes.specs.PulseWords.{pulse_words}
+use Rattle.pulse_texts.specs.PulseWords.{pulse_words}
 use Rattle.pulse_runs.specs.declared.shown.Shown.TheVariants as shown
 use Rattle.pulse_runs.specs.RunTexts as run
 use Rattle.pulselab.specs.declared.requests.Request.TheVariants as request
 use Rattle.pulselab.specs.declared.requests.Whole.TheVariants as whole
-use Rattle.pulselab.specs.PlanWord.{text_of}
-use Rattle.pulselab.specs.Requests.{request_of}
+use Rattle.pulselab.specs.Answers.{answer_of}
+use Rattle.pulselab.specs.Conduct.{asked_of}
 
 -- thirteen nodes, four of which may be faulty, that count modulo 10
 abbrev pub thirteen : PulseNumbers
@@ -32,7 +32,7 @@ thirteen_text = codes "pulses 1\ngroup 13 4 10\nend\n"
 
 -- what the word `plan` writes of a text
 abbrev pub IsAnsweredBy : (text answer : List ℕ) → Type 0
-IsAnsweredBy text answer = text_of (whole_pulses_of text) ≡ answer
+IsAnsweredBy text answer = run.text_of (answer_of whole.Plan text) ≡ answer
 
 -- A plan has this text, which is read as it; comments and empty lines may stand in it. And a plan
 -- has this table.
@@ -56,7 +56,7 @@ IsHeldAs text answer = run.text_of (run.run_of shown.Holds text) ≡ answer
 
 -- The runs of a node alone: also with eras, a comment, an empty line and starts; the first
 -- configurations of four nodes, one of them faulty, that are not locked, and that are; and a script
--- and a plan that are refused, with skipped lines counted, no script, and a line behind one.
+-- and a plan that are refused, with skipped lines counted, no script, and a line after one.
 pub record RunsAreSpelled : Type 0 where
   pub single : IsRunAs
       (codes "pulses 1\ngroup 1 0 3\nend\nscript 1\nfaulty\nstart zero\nrounds 4\nshow 1 4\nend\n")
@@ -90,9 +90,9 @@ pub record RunsAreSpelled : Type 0 where
       (codes "refused script line 10 rule form\n")
 
 -- The lines of who holds: of a node alone, whose table gives it two of its three outputs, with
--- skipped lines; of four nodes of which one is faulty, where two hold that are not locked, and one
--- where they are; of a table without a line; and a table that is refused by each of its rules, a
--- script behind one, and no table.
+-- skipped lines; of four nodes, one of them faulty, of which two hold when they are not locked, and
+-- one when they are; of a table without a line; and a table that is refused by each of its rules, a
+-- script after one, and no table.
 pub record SlotsAreSpelled : Type 0 where
   pub single : IsHeldAs
       (codes "pulses 1\ngroup 1 0 3\nend\n# who\nslots 1\nslot 0 1 2\n\nend\nscript 1\nfaulty\n"
@@ -138,9 +138,9 @@ IsFiredAs text answer = run.text_of (run.run_of shown.Fires text) ≡ answer
 abbrev pub IsLoggedAs : (text answer : List ℕ) → Type 0
 IsLoggedAs text answer = run.text_of (run.run_of shown.Entries text) ≡ answer
 
--- The lines of slots of a node alone, with skipped lines: it decides its own input, fires where it
+-- The lines of slots of a node alone, with skipped lines: it decides its own input, fires if it
 -- requested in the round before the slot, and puts its commands into its log in turn. Four nodes
--- that are not at the bound have no line. And parts that are refused: by each rule, a script behind
+-- that are not at the bound have no line. And parts that are refused: by each rule, a script after
 -- one, and no part.
 pub record LayersAreSpelled : Type 0 where
   pub decided : IsDecidedAs
@@ -213,9 +213,9 @@ abbrev pub IsServedAs : (input : List ℕ) → Result ℕ (NodeError LinePremise
 IsServedAs input ended text =
     node_outcome pulse_words input ≡ record { ended = ended; text = text }
 
--- The cells of a node: at its start and behind each packet, whatever it is told of itself; that
--- behind one in which all nodes have the state of zeros; also where the input ends inside a packet;
--- and lines of a header that fail.
+-- The cells of a node: at its start and after each packet, whatever it hears of itself; that after
+-- one in which all nodes have the state of zeros; also if the input ends inside a packet; and lines
+-- of a header that fail.
 pub record NodesAreServed : Type 0 where
   pub alone : IsServedAs (fifth ++ 0 ∷ 1 ∷ 255 ∷ 0 ∷ 0 ∷ []) (Ok 2)
       (0 ∷ 1 ∷ 160 ∷ 0 ∷ 1 ∷ 192 ∷ 0 ∷ 1 ∷ 224 ∷ [])
@@ -231,17 +231,18 @@ pub record NodesAreServed : Type 0 where
 
 -- Each word asks for what it says, and nothing else asks for anything.
 pub record WordsAskFor : Type 0 where
-  pub single : map (λ w. request_of (w ∷ []))
+  pub single : map (λ w. asked_of (w ∷ []))
       (codes "plan" ∷ codes "run" ∷ codes "slots" ∷ codes "consensus" ∷ codes "fire" ∷ codes "log"
       ∷ codes "node" ∷ codes "--help" ∷ codes "--version" ∷ codes "plan " ∷ [])
-      ≡ Some (request.Whole whole.Plan) ∷ Some (request.Whole (whole.Play shown.Rows))
-      ∷ Some (request.Whole (whole.Play shown.Holds))
-      ∷ Some (request.Whole (whole.Play shown.Decisions))
-      ∷ Some (request.Whole (whole.Play shown.Fires))
-      ∷ Some (request.Whole (whole.Play shown.Entries)) ∷ Some request.Node ∷ Some request.Help
-      ∷ Some request.Version ∷ None ∷ []
-  pub two : request_of (codes "plan" ∷ codes "node" ∷ []) ≡ None
-  pub none : request_of [] ≡ None
+      ≡ asked.Request (request.Whole whole.Plan)
+      ∷ asked.Request (request.Whole (whole.Play shown.Rows))
+      ∷ asked.Request (request.Whole (whole.Play shown.Holds))
+      ∷ asked.Request (request.Whole (whole.Play shown.Decisions))
+      ∷ asked.Request (request.Whole (whole.Play shown.Fires))
+      ∷ asked.Request (request.Whole (whole.Play shown.Entries)) ∷ asked.Request request.Node
+      ∷ asked.Help ∷ asked.Version ∷ asked.Nothing ∷ []
+  pub two : asked_of (codes "plan" ∷ codes "node" ∷ []) ≡ asked.Nothing
+  pub none : asked_of [] ≡ asked.Nothing
 
 -- Each of these is so by computation.
 pub record WorkedValues : Type 0 where

@@ -1,32 +1,32 @@
 //! Does what the words ask for.
 
-ghost use Rattle.std.specs.Prelude.{◌≡◌, map, string_bytes, MatchResult, IfErr};
+ghost use Rattle.std.specs.Prelude.{◌≡◌, map, string_bytes, IfErr, IsErrOf};
+ghost use Rattle.program_words.specs.Conduct.{LeavesUnread};
 ghost use Rattle.pulse_plan.specs.Laws.{EveryPlanSettles};
 ghost use Rattle.pulse_texts.specs.PulsesTexts.{PulsesTextIsWhole};
 ghost use Rattle.pulse_texts.specs.TableLaws.{TablesAreRead, OnlyTablesAreRead};
-ghost use Rattle.pulse_nodes.specs.HeaderTexts.{PulseHeaderTextIsRead};
-ghost use Rattle.pulse_nodes.specs.NodePromises.{PulseNodesKeepPromise, PulseCallsAreProcesses};
-ghost use Rattle.pulse_nodes.specs.NodePromises.{AnyPulseInputs};
+ghost use Rattle.pulse_texts.specs.HeaderTexts.{PulseHeaderTextIsRead};
+ghost use Rattle.pulse_texts.specs.NodePromises.{PulseNodesKeepPromise, PulseCallsAreProcesses};
+ghost use Rattle.pulse_texts.specs.NodePromises.{AnyPulseInputs};
 ghost use Rattle.pulse_runs.specs.RunPromises.{RunsKeepPromise};
 ghost use Rattle.pulse_runs.specs.HoldPromises.{SlotsKeepPromise};
 ghost use Rattle.pulse_runs.specs.LayerPromises.{LayersKeepPromise};
 ghost use Rattle.pulse_runs.specs.ScriptInputs.{ScriptInputsAreRead};
-ghost use Rattle.pulselab.specs.Faults.{KeptAt, UnmetAt};
-ghost use Rattle.pulselab.specs.Requests.{request_of};
-ghost use Rattle.pulselab.specs.Conduct.{Answers, Fails, LeavesUnread};
+ghost use Rattle.pulselab.specs.Conduct.{DoesAsked, KeptAt, asked_of};
 ghost use Rattle.pulselab.specs.Worked.{WorkedValues};
 
 use crate::asking::{write_help, write_version};
-use crate::faults::LabError;
 use crate::node_word::node;
+use crate::reasons::LabError;
 use crate::requests::{Request, request_of};
 use crate::whole_word::answer_all;
 use crate::worked::worked_values;
 use edge_io::{Sink, Source};
-use pulse_nodes::header_laws::header_texts_read_back;
-use pulse_nodes::laws::{any_inputs, calls_are_processes, pulse_nodes_keep_promise};
+use program_words::{Asked, ProgramError, asked_by};
 use pulse_plan::laws::every_plan_settles;
 use pulse_runs::laws::{runs_keep_promise, script_inputs_read_back};
+use pulse_texts::header_laws::header_texts_read_back;
+use pulse_texts::node_laws::{any_inputs, calls_are_processes, pulse_nodes_keep_promise};
 use pulse_texts::{pulses_texts_read_back, tables_read_back};
 use std::alloc::Global;
 
@@ -39,36 +39,33 @@ use std::alloc::Global;
 /// agree on, requests to fire or what a log has, and in place of rows write a line of each slot
 /// that counts: what its nodes decide, which of them fire, or the entry that they put. `node` reads
 /// a header, which has at most 2^20 bytes, and then packets, and writes the node's cell when the
-/// header has been read, and one behind each packet before it reads on. `--help` and `--version`
-/// read nothing, and write what they say.
+/// header has been read, and one after each packet before it reads on. `--help` and `--version`,
+/// alone, read nothing, and write what they say.
 ///
-/// `Usage` comes exactly where the words ask for nothing; nothing was read or written then.
-/// `Refused` and `PartRefused` name the first line of the input that fails, and why; the line of
-/// the refusal was written. At `NoMemory` nothing was written; of words that read all of their
-/// input, nor at `ReadFault` and `TooLong`. Of `node`, at `ReadFault` the cells of the whole
-/// packets that were read were written; `TooLong` comes where the header is too long, and nothing
-/// was written, or at the first byte of packet 1,000,001, and all cells were. `Cut` comes of `node`
-/// alone, exactly where the input ends inside a packet. `WriteFault` comes only where the sink
-/// counted a fault; a prefix of the answer was then taken.
+/// `Usage` comes exactly if the words ask for nothing; nothing was read or written then. `Input`
+/// names the first line of the input that fails, and why; the line of the refusal was written. At
+/// `NoMemory` nothing was written, nor, by words that read all of their input, at `ReadFault` and
+/// `TooLong`. Of `node`, at `ReadFault` the cells of the whole packets that were read were written;
+/// `TooLong` comes if the header is too long, and nothing was written, or at the first byte of
+/// packet 1,000,001, and all cells were. `Cut` comes of `node` alone, exactly if the input ends
+/// inside a packet. `WriteFault` comes only if the sink counted a fault; a prefix of the answer was
+/// then taken.
 pub fn pulselab<S: Source, K: Sink>(
     alloc: Global,
     words: &[String],
     source: &mut S,
     sink: &mut K,
 ) -> Result<(), LabError>
-    // What was read, and which bytes were written.
-    ensures does { MatchResult result
-        (λ _. Answers (request_of (map string_bytes words.now)) (S.left source.old)
-        (S.left source.new) (S.faults source.old) (S.faults source.new) (K.told sink.old)
-        (K.told sink.new))
-        (Fails (request_of (map string_bytes words.now)) (S.left source.old) (S.left source.new)
-        (S.faults source.old) (S.faults source.new) (K.told sink.old) (K.told sink.new)) }
+    // What was read, and which bytes were written, by how it ended.
+    ensures does { DoesAsked (map string_bytes words.now) result
+        (S.left source.old) (S.left source.new) (S.faults source.old) (S.faults source.new)
+        (K.told sink.old) (K.told sink.new) }
 
     // The same of a source and a sink that tell nothing, and of the source's end.
-    ensures unread { LeavesUnread (request_of (map string_bytes words.now)) source.old source.new }
-    ensures untouched { IfErr result (KeptAt (request_of (map string_bytes words.now))
+    ensures unread { LeavesUnread (asked_of (map string_bytes words.now)) source.old source.new }
+    ensures untouched { IfErr result (KeptAt (asked_of (map string_bytes words.now))
         sink.old sink.new) }
-    ensures unmet { IfErr result (UnmetAt (S.met source.old) (S.met source.new)) }
+    ensures unmet { IsErrOf result ProgramError.ReadFault → S.met source.new ≡ S.met source.old }
 
     // A plan that is accepted settles by its bound, from any start and under any lies.
     ensures settles { EveryPlanSettles }
@@ -90,34 +87,34 @@ pub fn pulselab<S: Source, K: Sink>(
     // is played is the script's: its starts, its faulty nodes, its lies. Each era is a run of the
     // plan, and from T rounds into it to its end all correct nodes show one number, which grows by
     // one modulo C. The first locked configuration that is written of it is the first one, which is
-    // T rounds into it at most, where it has so many; from each locked one on they stay locked.
+    // T rounds into it at most, if it has so many; from each locked one on they stay locked.
     ensures runs { RunsKeepPromise }
 
-    // So it is where a slot table is read with them, which is one for the plan's nodes and outputs.
-    // A node's word is 1 exactly where the table gives it the output that it shows: from T rounds
-    // into an era to its end that is one correct node at most, the holder of the output that all
-    // correct ones show.
+    // So it is if a slot table is read with them, which is one for the plan's nodes and outputs. A
+    // node's word is 1 exactly if the table gives it the output that it shows: from T rounds into
+    // an era to its end that is one correct node at most, the holder of the output that all correct
+    // ones show.
     ensures slots { SlotsKeepPromise }
 
-    // So it is with a layer above the plan's counter, where inputs to agree on, requests to fire or
+    // So it is with a layer above the plan's counter, if inputs to agree on, requests to fire or
     // what a log has are read with them. What is played is the script's, and each era is a run with
     // the layer. In each slot that begins later than T rounds into an era and ends in it all
-    // correct nodes decide one value, which is their common input where they have one; all of them
-    // fire or none does, as they requested in the round before the slot where they did the same; or
-    // they put one entry into their logs, which its owner commands where it is correct, so that
-    // since such a slot they all have put the same. Just these slots have a line, where they begin
-    // in a configuration that is shown, and its words say so.
+    // correct nodes decide one value, which is their common input if they have one; all of them
+    // fire or none does, as they requested in the round before the slot if they did the same; or
+    // they put one entry into their logs, which its owner commands if it is correct, so that since
+    // such a slot they all have put the same. Just these slots have a line, if they begin in a
+    // configuration that is shown, and its words say so.
     ensures layers { LayersKeepPromise }
 
-    // N calls of `node`, over a window of rounds that begins in each at a packet of its own: where
+    // N calls of `node`, over a window of rounds that begins in each at a packet of its own: if
     // each is given the cells that the correct ones write, and any bytes as those of few faulty
     // ones, what they write is a run of the plan, and counts. Once they are locked they stay so
-    // where cells are lost too, whichever N - F correct ones each is given. A call that takes the
+    // even if cells are lost, whichever N - F correct ones each is given. A call that takes the
     // place of another comes to count with them.
     ensures nodes { PulseNodesKeepPromise }
 
     // Each of them writes what a node of the plan writes that begins in the state which its header
-    // states, and is given the packets behind it.
+    // states, and is given the packets after it.
     ensures processes { PulseCallsAreProcesses }
 
     // Each node of each plan has a header, whose text is read as it is; and there are inputs of
@@ -137,11 +134,11 @@ pub fn pulselab<S: Source, K: Sink>(
     calls_are_processes();
     header_texts_read_back();
     any_inputs();
-    match request_of(words) {
-        None => Err(LabError::Usage),
-        Some(Request::Help) => Ok(write_help(sink)?),
-        Some(Request::Version) => Ok(write_version(sink)?),
-        Some(Request::Whole(word)) => answer_all(alloc, word, source, sink),
-        Some(Request::Node) => node(alloc, source, sink),
+    match asked_by(words, request_of(words)) {
+        Asked::Help => Ok(write_help(sink)?),
+        Asked::Version => Ok(write_version(sink)?),
+        Asked::Request(Request::Whole(word)) => answer_all(alloc, word, source, sink),
+        Asked::Request(Request::Node) => node(alloc, source, sink),
+        Asked::Nothing => Err(ProgramError::Usage),
     }
 }

@@ -5,33 +5,32 @@
 //! them, and writes which nodes hold. `pulselab consensus`, `fire` and `log` read what is to be
 //! agreed on between them, and write what comes of each slot. `pulselab node` is a node of such a
 //! plan: it reads a header, which has the plan, the node's id and its state, and then packets, and
-//! writes the node's cell at the start and behind each packet. `--help` and `--version` write what
+//! writes the node's cell at the start and after each packet. `--help` and `--version` write what
 //! they say.
 //!
 //! A plan that is refused is answered by one line, `refused pulses line L premise P`, and a part
-//! behind it by `refused PART line L rule R`, which names `slots`, `agree`, `fire`, `log`, `script`
+//! after it by `refused PART line L rule R`, which names `slots`, `agree`, `fire`, `log`, `script`
 //! or `node`. What else fails is said in one line on standard error. The exit codes are those of
 //! `counterlab`.
 //!
-//! What is written is proved, of [`calling::pulselab`]. That `main` hands on words and streams,
-//! ends with the code of the status and writes the line on standard error is tried, and not
-//! proved.
+//! What is read and written is proved, of [`calling::pulselab`] and [`program_words::end`]; that
+//! the line goes to standard error is not.
 #![tactic(auto)]
 
 mod asking;
 mod calling;
-mod faults;
 mod node_word;
 mod plan_word;
+mod reasons;
 mod requests;
 mod run_word;
 mod whole_word;
 mod worked;
 
 use crate::calling::pulselab;
-use crate::faults::LabError;
+use crate::reasons::LabError;
 use edge_io::{StdSink, StdSource};
-use program_words::{arguments, words};
+use program_words::{arguments, end, words};
 use std::io;
 use std::process::ExitCode;
 
@@ -44,14 +43,5 @@ fn run(rt: &HostRuntime) -> Result<(), LabError> {
 }
 
 fn main(rt: HostRuntime) -> ExitCode {
-    match run(&rt) {
-        Ok(()) => ExitCode::SUCCESS,
-        Err(error) => {
-            if !error.is_answered() {
-                // Where standard error is closed, the code alone says it.
-                let _ = eprintln!(rt; "{error}");
-            }
-            ExitCode::from(error.code())
-        }
-    }
+    end(&rt, run(&rt))
 }

@@ -1,29 +1,34 @@
 //! The table of a plan.
 
-ghost use Rattle.std.specs.Prelude.{◌≡◌, MatchResult, IfErr};
-ghost use Rattle.pulselab.specs.Faults.{KeepsSink};
-ghost use Rattle.pulselab.specs.declared.faults.LabError.TheVariants as error;
-ghost use Rattle.pulselab.specs.PlanWord.{IsTabled, FailsOn};
+ghost use Rattle.std.specs.Prelude.{◌≡◌, IfErr};
+ghost use Rattle.pulse_texts.specs.PulsesPart.{whole_pulses_of};
+ghost use Rattle.pulselab.specs.Answers.{table_of, WritesAnswer};
+ghost use Rattle.pulselab.specs.Conduct.{KeepsSink};
 
-use crate::faults::LabError;
+use crate::reasons::{LabError, LabReason};
 use edge_io::{Sink, WriteFault};
-use pulse_nodes::put_refusal;
-use pulse_texts::{PulsesError, read_whole_pulses, write_table};
+use program_words::ProgramError;
+use pulse_runs::{RunRefusal, put_refusal};
+use pulse_texts::{PulsesError, PulsesRefusal, read_whole_pulses, write_table};
 
 /// Writes the table of the plan that an input is, or the line of its refusal.
 pub fn table_plan<K: Sink>(input: &[u8], sink: &mut K) -> Result<(), LabError>
-    ensures does { MatchResult result
-        (λ _. IsTabled input.now (K.told sink.old) (K.told sink.new))
-        (FailsOn input.now (K.told sink.old) (K.told sink.new)) }
+    ensures does { WritesAnswer (table_of (whole_pulses_of input.now)) result
+        (K.told sink.old) (K.told sink.new) }
     ensures untouched { IfErr result (KeepsSink sink.old sink.new) }
-    ensures read { IfErr result (λ e. e ≡ error.ReadFault → ⊥) }
 {
     match read_whole_pulses(input) {
-        Ok(plan) => Ok(write_table(&plan, sink)?),
-        Err(PulsesError::Refused(refusal)) => match put_refusal(sink, refusal) {
-            Ok(()) => Err(LabError::Refused(refusal)),
-            Err(WriteFault) => Err(LabError::WriteFault),
+        Ok(plan) => match write_table(&plan, sink) {
+            Ok(()) => Ok(()),
+            Err(WriteFault) => Err(ProgramError::WriteFault),
         },
-        Err(PulsesError::NoMemory) => Err(LabError::NoMemory),
+        Err(PulsesError::Refused(PulsesRefusal { line, premise })) => {
+            let refusal = RunRefusal::Plan { line, premise };
+            match put_refusal(sink, refusal) {
+                Ok(()) => Err(ProgramError::Refused(LabReason::Input(refusal))),
+                Err(WriteFault) => Err(ProgramError::WriteFault),
+            }
+        }
+        Err(PulsesError::NoMemory) => Err(ProgramError::NoMemory),
     }
 }

@@ -1,7 +1,7 @@
 //! What the words ask for.
 
 ghost use Rattle.std.specs.Prelude.{◌≡◌, map, string_bytes};
-ghost use Rattle.pulselab.specs.Requests.{asked_alone, request_of};
+ghost use Rattle.pulselab.specs.Requests.{request_alone, request_of};
 
 use pulse_runs::Shown;
 
@@ -17,25 +17,17 @@ pub enum Whole {
 /// What is asked for.
 #[derive(Clone, Copy, Debug, PartialEq, Eq)]
 pub enum Request {
-    /// How the program is used.
-    Help,
-    /// Its name and version.
-    Version,
     /// The answer to all of the input.
     Whole(Whole),
-    /// One node that is given packets: its cell at the start and behind each packet.
+    /// One node that is given packets: its cell at the start and after each packet.
     Node,
 }
 
 /// What a single word asks for.
-fn asked_alone(word: &str) -> Option<Request>
-    ensures { result ≡ asked_alone word.now }
+fn request_alone(word: &str) -> Option<Request>
+    ensures { result ≡ request_alone word.now }
 {
-    if word == "--help" {
-        Some(Request::Help)
-    } else if word == "--version" {
-        Some(Request::Version)
-    } else if word == "plan" {
+    if word == "plan" {
         Some(Request::Whole(Whole::Plan))
     } else if word == "run" {
         Some(Request::Whole(Whole::Play(Shown::Rows)))
@@ -54,12 +46,12 @@ fn asked_alone(word: &str) -> Option<Request>
     }
 }
 
-/// What these words ask for: None exactly where they ask for nothing.
+/// What these words ask for: None exactly if they ask for no answer and no node.
 pub fn request_of(words: &[String]) -> Option<Request>
     ensures { result ≡ request_of (map string_bytes words.now) }
 {
     match words {
-        [word] => asked_alone(word.as_str()),
+        [word] => request_alone(word.as_str()),
         _ => None,
     }
 }

@@ -3,7 +3,7 @@
 /// How many bytes there is room for: those of eight numbers.
 const ROOM: usize = 64;
 
-/// Bits, the highest bit of the first byte first, with zeros behind.
+/// Bits, the highest bit of the first byte first, with zeros after them.
 #[derive(Clone, Copy)]
 pub struct Bits {
     bytes: [u8; ROOM],
@@ -17,7 +17,7 @@ pub const NO_BITS: Bits = Bits {
 };
 
 impl Bits {
-    /// Puts the lowest bits of a number behind the bits, the highest of them first.
+    /// Puts the lowest bits of a number after the bits, the highest of them first.
     pub fn put(&mut self, number: u64, width: u64) {
         for i in 0..width {
             let bit = number >> (width - i - 1) % 64 & 1;

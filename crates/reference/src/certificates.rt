@@ -20,7 +20,7 @@ fn write_head(out: &mut Text, plan: &Plan, script: &Script) {
     out.line("faulty", &script.faulty);
 }
 
-/// Whether a node has a state stated in configuration `at`: where it is correct, and before was not
+/// Whether a node has a state stated in configuration `at`: if it is correct, and before was not
 /// there, was faulty, or is put into a state.
 fn is_stated(script: &Script, at: u64, node: u64) -> bool {
     let was_faulty = script.faulty_at(at.wrapping_sub(1)).contains(&node);
@@ -42,7 +42,7 @@ fn write_config(out: &mut Text, plan: &Plan, script: &Script, run: &Run) {
     write_words(out, &Numbers::of(plan), Part::Rows, run);
 }
 
-/// Writes what each faulty node tells each correct one in the coming round of a run.
+/// Writes what each faulty node says to each correct one in the coming round of a run.
 fn write_lies(out: &mut Text, plan: &Plan, script: &Script, run: &Run) {
     let at = run.at();
     let faulty = script.faulty_at(at);

@@ -17,7 +17,7 @@ use std::alloc::{AllocError, Global};
 
 /// A plan with levels: how many nodes it has, how many a block of the top level has, and how many
 /// of these may be faulty. Besides, what its nodes show below the top level in the configurations
-/// of a run, one configuration behind the other.
+/// of a run, one configuration after the other.
 #[derive(Drop)]
 struct Shown<'a> {
     top: Level,
@@ -48,7 +48,7 @@ impl Shown<'_> {
         }
     }
 
-    /// Whether at most as many nodes of a block are faulty as it stands.
+    /// Whether at most as many nodes of a block are faulty as it tolerates.
     fn is_sound(&self, block: u64) -> bool {
         let first = block.wrapping_mul(self.nodes);
         let mut faulty = 0u64;

@@ -37,7 +37,7 @@ pub fn write_plan(text: &mut String, plan: &Plan) -> Result<(), AllocError> {
     out.end()
 }
 
-/// Writes the lines of a part of spans, each behind a word.
+/// Writes the lines of a part of spans, each after a word.
 fn write_spans(
     text: &mut String,
     part: &str,
@@ -93,7 +93,7 @@ pub fn write_log(
     out.end()
 }
 
-/// Writes to whom a lie is told.
+/// Writes who hears a lie.
 fn write_receivers(out: &mut Text, receivers: Receivers) {
     out.word(" to");
     match receivers {

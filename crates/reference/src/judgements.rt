@@ -16,7 +16,7 @@ use std::mem;
 /// How many rounds a certificate may have.
 const MOST_ROUNDS: u64 = 1_000_000;
 
-/// How many eras it may have behind the first one.
+/// How many eras it may have after the first one.
 const MOST_ERAS: u64 = 16;
 
 /// The name of the part.
@@ -39,7 +39,7 @@ struct Certificate {
     locked: Option<u64>,
 }
 
-// Written out, so that what lets go of one calls this, and no more.
+// Written out, so that code that drops one has a single call.
 impl Drop for Certificate {
     fn drop(self) {
         let Certificate {
@@ -96,7 +96,7 @@ impl Certificate {
         self.starts(alloc, lines, &unknown);
     }
 
-    /// The node whose state the line has, where it has one, else the number of nodes. The states of
+    /// The node whose state the line has, if it has one, else the number of nodes. The states of
     /// the nodes from `next` to before that are known.
     fn start_of(&self, lines: &mut Lines, next: u64, unknown: &[u64]) -> u64 {
         let nodes = self.plan.nodes();
@@ -114,7 +114,7 @@ impl Certificate {
     }
 
     /// Takes the lines of states of correct nodes, of which each that is `unknown` has one, and the
-    /// line behind them.
+    /// line after them.
     fn starts(&mut self, alloc: Global, lines: &mut Lines, unknown: &[u64]) {
         let mut next = 0u64;
         for _ in 0..=self.plan.nodes() {
@@ -174,7 +174,7 @@ impl Certificate {
     }
 
     /// Takes the lies of a round, the first of which is taken, if there is any: by sender, and then
-    /// by receiver; and the line behind them.
+    /// by receiver; and the line after them.
     fn lies(&self, alloc: Global, lines: &mut Lines) -> Vec<State> {
         let mut told = Vec::new(alloc);
         for sender in &self.faulty {
@@ -205,7 +205,7 @@ impl Certificate {
         heard
     }
 
-    /// Plays a round in which this is told. Faulty nodes are in no state.
+    /// Plays a round in which this is said. Faulty nodes are in no state.
     fn round(&mut self, alloc: Global, lines: &mut Lines, told: &[State]) {
         let mut config = Vec::new(alloc);
         let mut before = 0u64;
@@ -222,7 +222,7 @@ impl Certificate {
     }
 
     /// Takes the lines of an era that begins with configuration `at`, the first of which is taken,
-    /// and the line behind them.
+    /// and the line after them.
     fn era(&mut self, alloc: Global, lines: &mut Lines, at: u64) {
         self.eras = self.eras.wrapping_add(1);
         let is_next = lines.number(1) == at;

@@ -1,4 +1,4 @@
-//! Layers above the counter, whose nodes have registers behind those of the plan and keep something
+//! Layers above the counter, whose nodes have registers after those of the plan and keep something
 //! beside, and slot tables.
 
 use crate::numbers::Numbers;
@@ -43,7 +43,7 @@ fn owner(numbers: &Numbers, output: u64) -> u64 {
     remainder(quotient(output, numbers.entry()), numbers.nodes)
 }
 
-/// What a node commands behind an output.
+/// What a node commands after an output.
 fn command(numbers: &Numbers, commands: &[Vec<u64>], node: u64, output: u64) -> u64 {
     let next = remainder(output.wrapping_add(1), numbers.modulus);
     match commands.get(node as usize) {
@@ -70,7 +70,7 @@ impl Part<'_> {
     }
 
     /// What is loaded into the register of agreement of a node in a round, if anything is: at the
-    /// end of a slot an input, and at the front of an entry what its owner proposes.
+    /// end of a slot an input, and at the beginning of an entry what its owner proposes.
     fn input(self, numbers: &Numbers, heard: &Heard) -> Option<u64> {
         let place = remainder(heard.output, self.period(numbers));
         let is_last = place.wrapping_add(1) == self.period(numbers);
@@ -118,8 +118,8 @@ impl Part<'_> {
         }
     }
 
-    /// Writes the front of a line of configuration `at`, in which the lowest correct node showed an
-    /// output.
+    /// Writes the beginning of a line of configuration `at`, in which the lowest correct node
+    /// showed an output.
     pub fn write_front(self, out: &mut Text, numbers: &Numbers, at: u64, output: u64) {
         let word = match self {
             Part::Rows => "row",

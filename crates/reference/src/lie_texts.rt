@@ -5,7 +5,7 @@ use crate::scripts::{Lie, Receivers, Rule, Script};
 use crate::sizes::Sizes;
 use std::alloc::Global;
 
-/// The number of the group of that name, or how many groups there are where none has it.
+/// The number of the group of that name, or how many groups there are if none has it.
 pub fn group_of(names: &[&[u8]], name: &[u8]) -> usize {
     for (group, other) in names.iter().enumerate() {
         if *other == name {
@@ -15,7 +15,7 @@ pub fn group_of(names: &[&[u8]], name: &[u8]) -> usize {
     names.len()
 }
 
-/// To whom the line says that a lie is told, and the place of the word behind that.
+/// The receivers of the lie of the line, and the place of the word after them.
 fn told_of(lines: &mut Lines, names: &[&[u8]]) -> (Receivers, usize) {
     if lines.is(5, "all") {
         return (Receivers::All, 6);
@@ -26,7 +26,7 @@ fn told_of(lines: &mut Lines, names: &[&[u8]]) -> (Receivers, usize) {
     }
 }
 
-/// The lie that the words of the line from a place on are, where a state has so many bytes.
+/// The lie that the words of the line from a place on are, if a state has so many bytes.
 fn what_of(alloc: Global, lines: &mut Lines, place: usize, bytes: u64) -> Lie {
     let behind = place.saturating_add(1);
     if lines.is(place, "noise") {
@@ -58,7 +58,7 @@ fn want_lie(lines: &mut Lines, place: usize) -> u64 {
     if is_copy { number } else { 0 }
 }
 
-/// The nodes from which to which a line says that a lie is told, node 0 where it names none.
+/// The first and the last node that a line names as receivers of a lie, node 0 if it names none.
 fn told_nodes(receivers: Receivers) -> (u64, u64) {
     match receivers {
         Receivers::Between(from, to) => (from, to),

@@ -22,7 +22,7 @@ pub struct Lines<'a> {
     stop: Option<Stop>,
 }
 
-/// The number that a word is, of at most fifteen digits and without a zero in front.
+/// The number that a word is, of at most fifteen digits and without a zero at its beginning.
 fn number_of(word: &[u8]) -> Option<u64> {
     let is_led_by_zero = word.len() > 1 && word.first() == Some(&48);
     let mut is_number = !word.is_empty() && word.len() <= 15;
@@ -39,8 +39,8 @@ fn number_of(word: &[u8]) -> Option<u64> {
     }
 }
 
-/// How many words a line has, which single spaces part; none where there would be an empty one, or
-/// where there is a carriage return or too much.
+/// How many words a line has, which single spaces part; none if there would be an empty one, or if
+/// there is a carriage return or too much.
 fn words_of(line: &[u8]) -> usize {
     let mut words = 1usize;
     let mut is_good = line.len() <= LONGEST_LINE;
@@ -56,18 +56,18 @@ fn words_of(line: &[u8]) -> usize {
     if is_good && before != 32 { words } else { 0 }
 }
 
-/// How many bytes stand before the first that is `end`, or all where none is.
+/// How many bytes stand before the first that is `end`, or all if none is.
 fn length_to(bytes: &[u8], end: u8) -> usize {
     let place = bytes.iter().position(|byte| *byte == end);
     place.unwrap_or(bytes.len())
 }
 
-/// The bytes from a place on, none where there is no such place.
+/// The bytes from a place on, none if there is no such place.
 fn from_place(bytes: &[u8], place: usize) -> &[u8] {
     bytes.get(place..).unwrap_or(&[])
 }
 
-/// So many bytes in front.
+/// So many bytes at the beginning.
 fn front(bytes: &[u8], length: usize) -> &[u8] {
     bytes.get(..length).unwrap_or(&[])
 }
@@ -98,7 +98,7 @@ impl<'a> Lines<'a> {
         self.text.len()
     }
 
-    /// Where in the text the line behind the line begins.
+    /// Where in the text the line after the line begins.
     pub fn end(&self) -> usize {
         self.end
     }
@@ -132,7 +132,7 @@ impl<'a> Lines<'a> {
         }
     }
 
-    /// Puts an item behind a list, and stops where there is no memory.
+    /// Puts an item after a list, and stops if there is no memory.
     pub fn put<T: Drop>(&mut self, list: &mut Vec<T>, item: T) {
         if let Err(failed) = list.push(item) {
             self.stop(Stop::NoMemory(AllocError::from(failed)));
@@ -144,7 +144,7 @@ impl<'a> Lines<'a> {
         self.words
     }
 
-    /// The word of the line at a place, none where the line has no such word.
+    /// The word of the line at a place, none if the line has no such word.
     pub fn word(&self, place: usize) -> &'a [u8] {
         let mut rest = self.line;
         for _ in 0..place {
@@ -211,7 +211,7 @@ impl<'a> Lines<'a> {
         numbers
     }
 
-    /// The number behind a word, which have to be the whole line.
+    /// The number after a word, which have to be the whole line.
     pub fn only(&mut self, word: &str) -> u64 {
         self.want_form(2, word);
         self.number(1)
@@ -277,7 +277,7 @@ impl<'a> Lines<'a> {
         false
     }
 
-    /// Takes the next line of a part. Where there is none, the line behind the last is refused.
+    /// Takes the next line of a part. If there is none, the line after the last is refused.
     pub fn take(&mut self, part: &'static str) {
         if self.take_next(part) {
             let is_whole = self.is_ended || !self.is_strict;
@@ -307,7 +307,7 @@ impl<'a> Lines<'a> {
         self.take_version(part, 1);
     }
 
-    /// Wants no line behind the last part.
+    /// Wants no line after the last part.
     pub fn want_none(&mut self, part: &'static str) {
         let is_there = self.take_next(part);
         self.want(!is_there, "form");

@@ -21,7 +21,7 @@ pub struct Node {
     pub start: Vec<u8>,
 }
 
-// Written out, so that what lets go of one calls this, and no more.
+// Written out, so that code that drops one has a single call.
 impl Drop for Node {
     fn drop(self) {
         let Node { id: _, start } = self;
@@ -36,9 +36,9 @@ pub fn put_cell(bytes: &mut Vec<u8>, cell: &[u8]) -> Result<(), AllocError> {
     bytes.extend_from_slice(cell)
 }
 
-/// What a node that is in a state hears by the packet at the front of some bytes, and the bytes
-/// behind it; none where it is not whole. A cell stands behind its length. Of another node it is
-/// the state that its cell has, if it has its length, else the zero state.
+/// What a node that is in a state hears by the packet at the beginning of some bytes, and the bytes
+/// after it; none if it is not whole. A cell stands after its length. Of another node it is the
+/// state that its cell has, if it has its length, else the zero state.
 fn hear<'a>(
     plan: &Plan,
     node: u64,

@@ -30,7 +30,7 @@ struct Parts {
     commands: Vec<Vec<u64>>,
 }
 
-// Written out, so that what lets go of one calls this, and no more.
+// Written out, so that code that drops one has a single call.
 impl Drop for Parts {
     fn drop(self) {
         let Parts {
@@ -127,7 +127,7 @@ fn read_log(
     values
 }
 
-/// So many registers of a layer behind those of a plan, with values below `values`.
+/// So many registers of a layer after those of a plan, with values below `values`.
 #[derive(Clone, Copy)]
 struct Behind {
     registers: usize,
@@ -141,7 +141,7 @@ impl Behind {
     }
 }
 
-/// What stands behind the registers of a plan where there is no layer.
+/// What stands after the registers of a plan if there is no layer.
 const NOTHING_BEHIND: Behind = Behind {
     registers: 0,
     values: 0,

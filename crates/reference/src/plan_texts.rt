@@ -6,7 +6,7 @@ use crate::premises::{broken_base, broken_level};
 use crate::refusals::Stop;
 use std::alloc::Global;
 
-/// Refuses the line by a premise, where it breaks one.
+/// Refuses the line by a premise, if it breaks one.
 pub fn want_none_broken(lines: &mut Lines, broken: Option<&'static str>) {
     if let Some(premise) = broken {
         lines.want(false, premise);
@@ -46,7 +46,7 @@ pub fn take_base(lines: &mut Lines, part: &'static str) -> u64 {
     base
 }
 
-/// Takes the lines of the levels of a plan, and the line behind them.
+/// Takes the lines of the levels of a plan, and the line after them.
 pub fn take_levels(lines: &mut Lines, part: &'static str, plan: &mut Plan) {
     for _ in 0..=lines.most() {
         lines.take(part);

@@ -2,7 +2,7 @@
 
 use std::alloc::{AllocError, Global};
 
-/// A level of a plan: its blocks, the faults that it stands, its modulus, and its spare nodes.
+/// A level of a plan: its blocks, the faults that it tolerates, its modulus, and its spare nodes.
 #[derive(Clone, Copy)]
 pub struct Level {
     pub blocks: u64,
@@ -12,7 +12,7 @@ pub struct Level {
 }
 
 /// A version, 1 or 2, a base modulus, and levels from the bottom up. Version 1 has no spare nodes.
-/// Behind the registers of the levels each node has those of a layer, whose values are below
+/// After the registers of the levels each node has those of a layer, whose values are below
 /// `values`.
 pub struct Plan {
     pub version: u64,
@@ -22,7 +22,7 @@ pub struct Plan {
     pub values: u64,
 }
 
-// Written out, so that what lets go of one calls this, and no more.
+// Written out, so that code that drops one has a single call.
 impl Drop for Plan {
     fn drop(self) {
         let Plan {
@@ -36,12 +36,12 @@ impl Drop for Plan {
     }
 }
 
-/// `a` divided by `b`, or 0 where `b` is 0.
+/// `a` divided by `b`, or 0 if `b` is 0.
 pub fn quotient(a: u64, b: u64) -> u64 {
     a.checked_div(b).unwrap_or(0)
 }
 
-/// `a` modulo `b`, or 0 where `b` is 0.
+/// `a` modulo `b`, or 0 if `b` is 0.
 pub fn remainder(a: u64, b: u64) -> u64 {
     a.checked_rem(b).unwrap_or(0)
 }
@@ -108,7 +108,7 @@ impl Plan {
         })
     }
 
-    /// Puts so many registers of a layer behind those of the levels, with values below `values`.
+    /// Puts so many registers of a layer after those of the levels, with values below `values`.
     pub fn set_layer(&mut self, behind: usize, values: u64) {
         self.behind = behind;
         self.values = values;
@@ -156,7 +156,7 @@ impl Plan {
         self.group(self.levels.len())
     }
 
-    /// How many faulty nodes the plan stands.
+    /// How many faulty nodes the plan tolerates.
     pub fn faults(&self) -> u64 {
         match self.levels.last() {
             Some(level) => level.faults,
@@ -173,7 +173,7 @@ impl Plan {
         bound
     }
 
-    /// The level of which a node is a spare, or 0 where it is none. The node takes part from that
+    /// The level of which a node is a spare, or 0 if it is none. The node takes part from that
     /// level on.
     pub fn low(&self, node: u64) -> usize {
         let mut place = node;

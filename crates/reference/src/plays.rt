@@ -19,7 +19,7 @@ pub trait Play {
     /// The number of the configuration.
     fn at(&self) -> u64;
 
-    /// What a node shows, where it is correct.
+    /// What a node shows, if it is correct.
     fn output(&self, node: u64) -> Option<u64>;
 
     /// What a node of a layer keeps.

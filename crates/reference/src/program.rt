@@ -17,7 +17,7 @@ pub struct Answer {
     pub refusal: Option<Refusal>,
 }
 
-// Written out, so that what lets go of one calls this, and no more.
+// Written out, so that code that drops one has a single call.
 impl Drop for Answer {
     fn drop(self) {
         let Answer {

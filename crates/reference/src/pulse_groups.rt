@@ -10,8 +10,8 @@ pub const MOST_LEVELS: usize = 9;
 const FAULTS: usize = 86;
 
 /// So many nodes from a first one on, of which so many may be faulty, and what they count by. A
-/// group that tolerates none is one node. Behind the registers of its groups each node of a plan
-/// has those of a layer, whose values are below `values`.
+/// group that tolerates none is one node. After the registers of its groups each node of a plan has
+/// those of a layer, whose values are below `values`.
 #[derive(Clone, Copy)]
 pub struct Group {
     pub first: u64,
@@ -38,7 +38,7 @@ impl Group {
         }
     }
 
-    /// Puts so many registers of a layer behind those of the groups, with values below `values`.
+    /// Puts so many registers of a layer after those of the groups, with values below `values`.
     pub fn set_layer(&mut self, behind: usize, values: u64) {
         self.behind = behind;
         self.values = values;
@@ -121,7 +121,7 @@ impl Group {
         levels
     }
 
-    /// What the number of one of its nodes counts by, where the node is alone in its lowest group.
+    /// What the number of one of its nodes counts by, if the node is alone in its lowest group.
     pub fn base_of(&self, node: u64) -> Option<u64> {
         let mut lowest = *self;
         for _ in 0..MOST_LEVELS {

@@ -19,7 +19,7 @@ pub struct Run<'a> {
     at: u64,
 }
 
-// Written out, so that what lets go of one calls this, and no more.
+// Written out, so that code that drops one has a single call.
 impl Drop for Run<'_> {
     fn drop(self) {
         let Run {
@@ -56,7 +56,7 @@ impl<'a> Run<'a> {
         self.played.script.faulty_at(self.at).contains(&node)
     }
 
-    /// What a node tells another: a correct one its state, and a faulty one a lie.
+    /// What a node says to another: a correct one its state, and a faulty one a lie.
     fn told(&self, sender: u64, receiver: u64) -> State {
         if sender != receiver && self.is_faulty(sender) {
             lie(
@@ -98,8 +98,8 @@ impl<'a> Run<'a> {
         Ok(())
     }
 
-    /// The state of a node after the round. Some nodes are put into states where an era begins;
-    /// what they keep goes on all the same.
+    /// The state of a node after the round. Some nodes are put into states when an era begins; what
+    /// they keep goes on all the same.
     fn next_of(&self, alloc: Global, node: u64) -> Result<State, AllocError> {
         let mut heard = Vec::new(alloc);
         for sender in 0..self.plan.nodes {

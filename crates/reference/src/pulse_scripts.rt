@@ -1,10 +1,10 @@
-//! What a script says of a pulse plan: in which states nodes start, and what faulty ones tell.
+//! What a script says of a pulse plan: in which states nodes start, and what faulty ones say.
 
 use crate::pulse_groups::Group;
 use crate::pulse_states::{State, ZERO_STATE, read, shifted, state_of};
 use crate::scripts::{Lie, Script};
 
-/// What a faulty sender tells a receiver in round `at`: by the first rule that matches, else its
+/// What a faulty sender says to a receiver in round `at`: by the first rule that matches, else its
 /// own state.
 pub fn lie(
     plan: &Group,

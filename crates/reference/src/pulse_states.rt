@@ -6,13 +6,13 @@ use crate::pulse_groups::{Group, MOST_LEVELS};
 use crate::states::{Register, State as Kept, ZERO, ZERO_STATE as NOTHING_KEPT};
 use crate::steps::register as register_at;
 
-/// The registers of a level: that of the king; the instruction that comes, infinite where the node
+/// The registers of a level: that of the king; the instruction that comes, infinite if the node
 /// waits, and whether the left half began these; the age of the left pulse, infinite from a period
 /// on, and whether it was seen; 0, and whether the right pulse was seen.
 pub type Level = [Register; 4];
 
 /// A number, and the registers of each level, from the whole down. What a node lacks is 0, with no
-/// mark. Behind them, the registers of a layer and what a node of it keeps.
+/// mark. After them, the registers of a layer and what a node of it keeps.
 #[derive(Clone, Copy)]
 pub struct State {
     pub x: u64,
@@ -49,12 +49,12 @@ pub fn state_of(config: &[State], node: u64) -> State {
     config.get(node as usize).copied().unwrap_or(ZERO_STATE)
 }
 
-/// The value that a number is read as, which is infinite where it is too large.
+/// The value that a number is read as, which is infinite if it is too large.
 fn value_of(number: u64, modulus: u64) -> Option<u64> {
     if number < modulus { Some(number) } else { None }
 }
 
-/// The register of a modulus that stands in some bytes behind `at` bits, which are then those
+/// The register of a modulus that stands in some bytes after `at` bits, which are then those
 /// through it.
 fn read_register(bytes: &[u8], at: &mut u64, modulus: u64) -> Register {
     let bits = width(modulus.wrapping_add(1));
@@ -65,7 +65,7 @@ fn read_register(bytes: &[u8], at: &mut u64, modulus: u64) -> Register {
     Register { value, mark }
 }
 
-/// The registers of a level of a group that stand in some bytes behind `at` bits.
+/// The registers of a level of a group that stand in some bytes after `at` bits.
 fn read_level(group: &Group, bytes: &[u8], at: &mut u64) -> Level {
     let mut level = ZERO_LEVEL;
     for (register, modulus) in level.iter_mut().zip(&group.moduli()) {
@@ -95,7 +95,7 @@ pub fn read(plan: &Group, node: u64, bytes: &[u8]) -> State {
     state
 }
 
-/// Puts a register of a modulus behind some bits: an infinite value stands as the first that is too
+/// Puts a register of a modulus after some bits: an infinite value stands as the first that is too
 /// large.
 fn write_register(bits: &mut Bits, register: &Register, modulus: u64) {
     bits.put(
@@ -122,7 +122,7 @@ pub fn written(plan: &Group, node: u64, state: &State) -> Bits {
     bits
 }
 
-/// A register whose value is infinite where it is too large.
+/// A register whose value is infinite if it is too large.
 fn fitted(register: &Register, modulus: u64) -> Register {
     Register {
         value: match register.value {

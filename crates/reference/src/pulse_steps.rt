@@ -22,7 +22,7 @@ fn register(state: &State, depth: usize, place: usize) -> Register {
 }
 
 /// What a state shows of a group that is at a depth: its number, or the value of the king's
-/// register, 0 where that is infinite.
+/// register, 0 if that is infinite.
 fn shown_in(group: &Group, depth: usize, state: &State) -> u64 {
     if group.is_single() {
         state.x
@@ -37,7 +37,7 @@ pub fn shown(plan: &Group, state: &State) -> u64 {
 }
 
 /// The value at which a state of a plan's node is locked: that of a marked king's register, or its
-/// number where the plan has one node.
+/// number if the plan has one node.
 pub fn locked_at(plan: &Group, state: &State) -> Option<u64> {
     let king = register(state, 0, KING);
     if plan.is_single() {

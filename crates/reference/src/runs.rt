@@ -22,7 +22,7 @@ pub struct Run<'a> {
     at: u64,
 }
 
-// Written out, so that what lets go of one calls this, and no more.
+// Written out, so that code that drops one has a single call.
 impl Drop for Run<'_> {
     fn drop(self) {
         let Run {
@@ -81,7 +81,7 @@ impl<'a> Run<'a> {
         self.played.script.faulty_at(self.at).contains(&node)
     }
 
-    /// What a node tells another: a correct one its state, and a faulty one a lie.
+    /// What a node says to another: a correct one its state, and a faulty one a lie.
     fn told(&self, sender: u64, receiver: u64) -> State {
         if sender != receiver && self.is_faulty(sender) {
             let script = self.played.script;
@@ -91,7 +91,7 @@ impl<'a> Run<'a> {
         }
     }
 
-    /// Puts a node's new registers of the layer behind those of the levels, by what it heard.
+    /// Puts a node's new registers of the layer after those of the levels, by what it heard.
     fn put_layer(&self, node: u64, state: &mut State) {
         let depth = self.plan.levels.len();
         let heard = Heard {
@@ -104,8 +104,8 @@ impl<'a> Run<'a> {
         self.played.part.step(&self.played.numbers, &heard, state);
     }
 
-    /// The state of a node behind the round. Some nodes are put into states where an era begins;
-    /// what they keep goes on all the same.
+    /// The state of a node after the round. Some nodes are put into states when an era begins; what
+    /// they keep goes on all the same.
     fn next_of(&mut self, node: u64) -> State {
         for sender in 0..self.plan.nodes() {
             let told = self.told(sender, node);

@@ -13,14 +13,14 @@ const MOST_ROUNDS: u64 = 1_000_000;
 /// How many groups, and how many lies, there may be.
 const MOST_LINES: usize = 256;
 
-/// How many eras there may be behind the first one.
+/// How many eras there may be after the first one.
 const MOST_ERAS: usize = 16;
 
 /// The name of the part.
 const PART: &str = "script";
 
-/// Refuses the line where its ids are not those of nodes, or do not rise, or where it is not behind
-/// the one before.
+/// Refuses the line if its ids are not those of nodes, or do not rise, or if it is not after the
+/// one before.
 fn want_ids(lines: &mut Lines, sizes: &Sizes, ids: &[u64], is_behind: bool) {
     let nodes = sizes.nodes;
     let mut are_nodes = true;
@@ -35,14 +35,13 @@ fn want_ids(lines: &mut Lines, sizes: &Sizes, ids: &[u64], is_behind: bool) {
     lines.want(is_ordered, "order");
 }
 
-/// Refuses the line where its ids are not those of a faulty set, or where it is not behind the one
-/// before.
+/// Refuses the line if its ids are not those of a faulty set, or if it is not after the one before.
 pub fn want_faulty(lines: &mut Lines, sizes: &Sizes, ids: &[u64], is_behind: bool) {
     want_ids(lines, sizes, ids, is_behind);
     lines.want(ids.len() as u64 <= sizes.faults, "faults");
 }
 
-/// Takes the lines of nodes' starts, and the line behind them.
+/// Takes the lines of nodes' starts, and the line after them.
 fn read_starts(alloc: Global, sizes: &Sizes, lines: &mut Lines) -> Vec<Start> {
     let mut starts = Vec::new(alloc);
     let mut least = 0u64;
@@ -63,7 +62,7 @@ fn read_starts(alloc: Global, sizes: &Sizes, lines: &mut Lines) -> Vec<Start> {
     starts
 }
 
-/// Takes the lines of the eras, the first of which is taken if there is one, and the line behind
+/// Takes the lines of the eras, the first of which is taken if there is one, and the line after
 /// them.
 fn read_eras(alloc: Global, sizes: &Sizes, lines: &mut Lines) -> Vec<Era> {
     let mut eras = Vec::new(alloc);
@@ -98,8 +97,8 @@ fn is_name(word: &[u8]) -> bool {
     is_name
 }
 
-/// Takes the lines of the groups, the first of which is taken if there is one, and the line behind
-/// them. Their names are put behind `names`.
+/// Takes the lines of the groups, the first of which is taken if there is one, and the line after
+/// them. Their names are put after `names`.
 fn read_groups<'a>(
     alloc: Global,
     sizes: &Sizes,
@@ -127,7 +126,7 @@ fn read_groups<'a>(
 }
 
 /// Takes the lines of the groups and of the lies, the first of which is taken if there is one, and
-/// the line behind them.
+/// the line after them.
 fn read_rules(alloc: Global, sizes: &Sizes, lines: &mut Lines, script: &mut Script) {
     let mut names = Vec::new(alloc);
     script.groups = read_groups(alloc, sizes, lines, &mut names);
@@ -162,7 +161,7 @@ fn read_rounds(lines: &mut Lines, script: &mut Script) {
     lines.want_none(PART);
 }
 
-/// Takes the line of the key, if there is one, and the line behind it.
+/// Takes the line of the key, if there is one, and the line after it.
 fn read_key(alloc: Global, lines: &mut Lines) -> Option<[u8; 32]> {
     lines.take(PART);
     if !lines.is(0, "seed") {
@@ -183,7 +182,7 @@ fn is_noisy(lines: &mut Lines) -> bool {
     is_noisy
 }
 
-/// Takes the lines of a script down to those of its eras, and the line behind them.
+/// Takes the lines of a script down to those of its eras, and the line after them.
 fn read_front(alloc: Global, sizes: &Sizes, lines: &mut Lines) -> Script {
     let version = lines.take_version(PART, 2);
     lines.take(PART);
@@ -213,7 +212,7 @@ fn read_front(alloc: Global, sizes: &Sizes, lines: &mut Lines) -> Script {
     }
 }
 
-/// Takes the lines of a script, behind which there may be none.
+/// Takes the lines of a script, after which there may be none.
 pub fn read_script(alloc: Global, sizes: &Sizes, lines: &mut Lines) -> Result<Script, Stop> {
     let mut script = read_front(alloc, sizes, lines);
     read_rules(alloc, sizes, lines, &mut script);

@@ -6,7 +6,7 @@ use crate::states::{State, ZERO_STATE, read, shifted, state_of};
 use rand_chacha::ChaCha8Rng;
 use rand_core::{Rng, SeedableRng};
 
-/// Whom a lie is told: all, the nodes from one to another, or the group of a number.
+/// Who hears a lie: all, the nodes from one to another, or the group of a number.
 #[derive(Clone, Copy)]
 pub enum Receivers {
     All,
@@ -23,8 +23,8 @@ pub enum Lie {
     Shift(u64),
 }
 
-/// A line of lies: in the rounds from `first` to `last` the sender tells the receivers that lie,
-/// where it is faulty.
+/// A line of lies: in the rounds from `first` to `last` the sender says that lie to the receivers,
+/// if it is faulty.
 pub struct Rule {
     pub first: u64,
     pub last: u64,
@@ -33,7 +33,7 @@ pub struct Rule {
     pub lie: Lie,
 }
 
-// Written out, so that what lets go of one calls this, and no more.
+// Written out, so that code that drops one has a single call.
 impl Drop for Rule {
     fn drop(self) {
         let Rule {
@@ -53,7 +53,7 @@ pub struct Start {
     pub bytes: Vec<u8>,
 }
 
-// Written out, so that what lets go of one calls this, and no more.
+// Written out, so that code that drops one has a single call.
 impl Drop for Start {
     fn drop(self) {
         let Start { node: _, bytes } = self;
@@ -68,7 +68,7 @@ pub struct Era {
     pub starts: Vec<Start>,
 }
 
-// Written out, so that what lets go of one calls this, and no more.
+// Written out, so that code that drops one has a single call.
 impl Drop for Era {
     fn drop(self) {
         let Era {
@@ -96,7 +96,7 @@ pub struct Script {
     pub last: u64,
 }
 
-// Written out, so that what lets go of one calls this, and no more.
+// Written out, so that code that drops one has a single call.
 impl Drop for Script {
     fn drop(self) {
         let Script {
@@ -129,7 +129,7 @@ fn word(key: [u8; 32], stream: u64, place: u64) -> u32 {
 }
 
 impl Rule {
-    /// Whether it says what the sender tells the receiver in round `at`.
+    /// Whether it has what the sender says to the receiver in round `at`.
     fn matches(&self, script: &Script, at: u64, sender: u64, receiver: u64) -> bool {
         let listens = match self.receivers {
             Receivers::All => true,
@@ -195,7 +195,8 @@ impl Script {
         bits
     }
 
-    /// The noise that a sender tells a receiver in round `at`, of which so many bytes are a state.
+    /// The noise that a sender says to a receiver in round `at`, of which so many bytes are a
+    /// state.
     pub fn told_noise(&self, bytes: u64, at: u64, sender: u64, receiver: u64) -> Bits {
         let stream = sender.wrapping_mul(256).wrapping_add(receiver);
         self.noise(bytes, stream, at)
@@ -206,7 +207,7 @@ impl Script {
         self.noise(bytes, node.wrapping_add(65536), 0)
     }
 
-    /// What the first rule that matches says that a sender tells a receiver in round `at`.
+    /// What a sender says to a receiver in round `at` by the first rule that matches.
     pub fn told(&self, at: u64, sender: u64, receiver: u64) -> Option<&Lie> {
         for rule in &self.rules {
             if rule.matches(self, at, sender, receiver) {
@@ -216,7 +217,7 @@ impl Script {
         None
     }
 
-    /// What a faulty sender tells a receiver in round `at`: by the first rule that matches, else
+    /// What a faulty sender says to a receiver in round `at`: by the first rule that matches, else
     /// its own state.
     pub fn lie(&self, plan: &Plan, config: &[State], at: u64, sender: u64, receiver: u64) -> State {
         let own = state_of(config, sender);
@@ -251,7 +252,7 @@ impl Script {
         }
     }
 
-    /// The bytes of the state that a node is put into in configuration `at`, where it is.
+    /// The bytes of the state that a node is put into in configuration `at`, if it is.
     pub fn hit(&self, at: u64, node: u64) -> Option<&[u8]> {
         match self.era(at) {
             Some(era) if era.first == at => bytes_for(&era.starts, node),

@@ -49,7 +49,7 @@ fn broken_span(nodes: u64, span: &Span) -> Option<&'static str> {
     }
 }
 
-/// The first rule that the line of a slot behind those of others fails.
+/// The first rule that the line of a slot after those of others fails.
 pub fn broken_slot(numbers: &Numbers, slot: &Span, others: &[Span]) -> Option<&'static str> {
     let broken = broken_span(numbers.nodes, slot);
     if broken.is_some() {

@@ -7,16 +7,16 @@ use crate::plans::{Plan, remainder, width};
 /// has more, and two of a layer.
 const ROOM: usize = 7;
 
-/// A register: a finite value, or None where it is infinite, and its mark.
+/// A register: a finite value, or None if it is infinite, and its mark.
 #[derive(Clone, Copy)]
 pub struct Register {
     pub value: Option<u64>,
     pub mark: bool,
 }
 
-/// A number and a register for each level, from the bottom up, and behind them those of a layer.
+/// A number and a register for each level, from the bottom up, and after them those of a layer.
 /// What a node lacks is 0, with no mark. Beside them, what a node of a layer decided last, which it
-/// tells nobody.
+/// says to nobody.
 #[derive(Clone, Copy)]
 pub struct State {
     pub x: u64,
@@ -46,7 +46,7 @@ impl State {
     }
 }
 
-/// The value that a number is read as, which is infinite where it is too large.
+/// The value that a number is read as, which is infinite if it is too large.
 fn value_of(number: u64, modulus: u64) -> Option<u64> {
     if number < modulus { Some(number) } else { None }
 }

@@ -11,7 +11,7 @@ pub fn register(state: &State, depth: usize) -> Register {
     }
 }
 
-/// What a state shows at a depth: its number, or the value of the register on top, 0 where that is
+/// What a state shows at a depth: its number, or the value of the register on top, 0 if that is
 /// infinite.
 pub fn shown(state: &State, depth: usize) -> u64 {
     match depth.checked_sub(1) {
@@ -84,7 +84,7 @@ impl Pointer {
         )
     }
 
-    /// The pointer that more than half of some states have, 0 where there is none.
+    /// The pointer that more than half of some states have, 0 if there is none.
     fn majority(&self, states: &[State]) -> u64 {
         for state in states {
             let pointer = self.of(state);
@@ -102,8 +102,8 @@ impl Pointer {
     }
 }
 
-/// The block for which more than half of the blocks of a group vote, 0 where there is none. The
-/// vote of a block is the majority of the pointers of its nodes.
+/// The block for which more than half of the blocks of a group vote, 0 if there is none. The vote
+/// of a block is the majority of the pointers of its nodes.
 fn leader(level: &Level, depth: usize, nodes: u64, group: &[State]) -> u64 {
     for leader in 0..level.leaders() {
         let mut votes = 0u64;

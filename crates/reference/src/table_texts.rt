@@ -10,8 +10,8 @@ use std::alloc::Global;
 /// The name of the part.
 const PART: &str = "table";
 
-/// Reads the numbers that stand behind some words, the first of which is at a place of the line;
-/// the line has no word more.
+/// Reads the numbers that stand after some words, the first of which is at a place of the line; the
+/// line has no word more.
 fn read_pairs(lines: &mut Lines, first: usize, words: &[&'static str], numbers: &mut [u64]) {
     let mut place = first;
     for (word, number) in words.iter().zip(numbers) {
@@ -44,7 +44,7 @@ fn read_level(lines: &mut Lines, plan: &mut Plan) {
     }
 }
 
-/// Takes the lines of the levels of a table, and the line behind them.
+/// Takes the lines of the levels of a table, and the line after them.
 fn take_levels(lines: &mut Lines, plan: &mut Plan) {
     for _ in 0..=lines.most() {
         lines.take(PART);

@@ -8,7 +8,7 @@ use crate::refusals::Stop;
 use crate::texts::Text;
 use std::alloc::{AllocError, Global};
 
-/// What the numbers of the line of a level are called, behind its index.
+/// What the numbers of the line of a level are called, after its index.
 const LEVEL_WORDS: [&str; 9] = [
     "blocks", "leaders", "nodes", "faults", "beat", "span", "modulus", "bound", "bits",
 ];
@@ -96,7 +96,7 @@ pub fn level_words(version: u64) -> &'static [&'static str] {
     }
 }
 
-/// The numbers of the line of a level, behind its index.
+/// The numbers of the line of a level, after its index.
 pub fn in_line(level: &Level, numbers: &Numbers) -> [u64; 10] {
     [
         level.blocks,
@@ -127,7 +127,7 @@ impl Whole {
     }
 }
 
-/// Writes words, each with its number behind it, and the end of the line.
+/// Writes words, each with its number after it, and the end of the line.
 fn write_pairs(out: &mut Text, words: &[&'static str], numbers: &[u64]) {
     for (word, number) in words.iter().zip(numbers) {
         out.word(" ");

@@ -1,8 +1,8 @@
-//! Texts that are written, where memory may be short.
+//! Texts that are written, when memory may be short.
 
 use std::alloc::AllocError;
 
-/// What is written behind a text, and whether there was memory for all of it so far. Who makes one
+/// What is written after a text, and whether there was memory for all of it so far. Who makes one
 /// asks at its end.
 pub struct Text<'a> {
     text: &'a mut String,
@@ -10,7 +10,7 @@ pub struct Text<'a> {
 }
 
 impl<'a> Text<'a> {
-    /// Nothing so far, behind a text.
+    /// Nothing so far, after a text.
     pub fn behind(text: &'a mut String) -> Text<'a> {
         Text {
             text,
@@ -31,7 +31,7 @@ impl<'a> Text<'a> {
         }
     }
 
-    /// Writes a word, and numbers, each behind a space.
+    /// Writes a word, and numbers, each after a space.
     pub fn put(&mut self, word: &str, numbers: &[u64]) {
         self.word(word);
         for number in numbers {
@@ -47,7 +47,7 @@ impl<'a> Text<'a> {
         self.word("\n");
     }
 
-    /// Writes bytes as hex digits behind a space.
+    /// Writes bytes as hex digits after a space.
     pub fn bytes(&mut self, bytes: &[u8]) {
         self.word(" ");
         for byte in bytes {

@@ -31,8 +31,8 @@ const NO_LEVEL: Level = Level {
     spares: 0,
 };
 
-/// Levels without moduli, so many, the nodes of the highest, the faults that it stands, and the sum
-/// of the spans.
+/// Levels without moduli, so many, the nodes of the highest, the faults that it tolerates, and the
+/// sum of the spans.
 #[derive(Clone, Copy)]
 struct Tower {
     levels: [Level; MOST_LEVELS],
@@ -56,7 +56,7 @@ impl Want {
 }
 
 impl Tower {
-    /// Whether a level may stand on it, where so many nodes may be.
+    /// Whether a level may stand on it, if there may be so many nodes.
     fn stands(&self, level: &Level, most: u64) -> bool {
         let nodes = level.blocks.wrapping_mul(self.nodes);
         let share = self.faults.wrapping_add(1).wrapping_mul(level.leaders());
@@ -120,7 +120,7 @@ impl Tower {
     }
 }
 
-/// Puts a tower and one more level, in each way that there is, behind towers.
+/// Puts a tower and one more level, in each way that there is, after towers.
 fn put_higher(towers: &mut Vec<Tower>, tower: &Tower, most: u64) -> Result<(), AllocError> {
     for blocks in 3..=quotient(most, tower.nodes).min(16) {
         for faults in 0..=quotient(most, 3) {
@@ -160,7 +160,7 @@ fn towers(alloc: Global, most: u64) -> Result<Vec<Tower>, AllocError> {
     Ok(towers)
 }
 
-/// The first of some towers that stands just so many faults.
+/// The first of some towers that tolerates just so many faults.
 fn first(towers: &[Tower], faults: u64) -> Option<Tower> {
     let mut first: Option<Tower> = None;
     for tower in towers {
@@ -175,7 +175,7 @@ fn first(towers: &[Tower], faults: u64) -> Option<Tower> {
     first
 }
 
-/// The least bound of some towers that have so many nodes and stand so many faults.
+/// The least bound of some towers that have so many nodes and tolerate so many faults.
 fn least_bound(towers: &[Tower], nodes: u64, faults: u64) -> Option<u64> {
     let mut least: Option<u64> = None;
     for tower in towers {

@@ -24,7 +24,7 @@ pub struct Writing<'a> {
     seen: Vec<Seen>,
 }
 
-// Written out, so that what lets go of one calls this, and no more.
+// Written out, so that code that drops one has a single call.
 impl Drop for Writing<'_> {
     fn drop(self) {
         let Writing { played: _, seen } = self;
@@ -112,7 +112,7 @@ impl<'a> Writing<'a> {
         is_begun && is_behind && script.era_at(end) == first
     }
 
-    /// Writes the line of the configuration that a run is at, if there is one: of a layer, where a
+    /// Writes the line of the configuration that a run is at, if there is one: of a layer, if a
     /// slot ends.
     fn write_shown<P: Play>(&self, out: &mut Text, play: &P) {
         let Played {

@@ -1,4 +1,4 @@
--- Every slot of a log puts one entry, also where commands change.
+-- Every slot of a log puts one entry, also if commands change.
 use Rattle.std.proofs.Common.{ℕ, refl}
 use Rattle.sync_types.specs.States.{State}
 use Rattle.construction.specs.Runs.{IsState}

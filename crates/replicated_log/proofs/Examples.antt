@@ -1,6 +1,5 @@
 -- Worked values of the log, by computation: four nodes, one fault. Entries have seven rounds, and
--- the
--- nodes own them in turn.
+-- the nodes own them in turn.
 use Rattle.std.proofs.Common.{◌≡◌, ℕ, zero, suc, List, [], ◌∷◌, map, None, false, refl}
 use Rattle.std.specs.List.{range_with_len}
 use Rattle.sync_types.specs.declared.states.Reg.{Reg}

@@ -6,87 +6,83 @@ use Rattle.std.proofs.Common.{subst, arith}
 use Rattle.std.specs.Prelude.{⊤, IfOk, nat_lt, not, ◌==◌, if◌then◌else◌, codes}
 use Rattle.std.specs.List.{list_all}
 use Rattle.std.specs.Str.{bytes_eq}
-use Rattle.std.proofs.lemmas.Bool.{and_parts, eqb-true, ltb-false, ltb-true}
+use Rattle.std.proofs.lemmas.Bool.{eqb-true, ltb-false, ltb-true}
 use Rattle.std.proofs.lemmas.List.{length_push}
-use Rattle.std.proofs.lemmas.List.Elements.{All-push, All-cons, All-nil}
+use Rattle.std.proofs.lemmas.List.Elements.{All-push, All-nil}
 use Rattle.texts.specs.Lines.{words_of}
-use Rattle.texts.specs.Shapes.{numbers_after}
-use Rattle.texts.specs.Parts.{Next, ends, refuses}
-use Rattle.texts.proofs.Parts.{After, skips_keep, part_keeps}
+use Rattle.texts.specs.Shapes.{all_numbers_after}
+use Rattle.texts.specs.Parts.{Next, ends, refuses, goes_on}
+use Rattle.texts.proofs.Parts.{After, goes_on_keeps, skipping_keeps, found_weaker}
 use Rattle.sync_types.specs.declared.answers.Rule.{Rule}
-use Rattle.sync_types.specs.declared.answers.Rule.TheVariants.{Form, Limit, Node, Range, Slot}
+use Rattle.sync_types.specs.declared.answers.Rule.TheVariants.{Form, Limit, Node, Range}
 use Rattle.construction.specs.Plans.{Plan}
 use Rattle.layer_laws.specs.Numbers.{Numbers, numbers_of}
+use Rattle.consensus_layer.specs.PartLines.{head_tested, number_within}
+use Rattle.consensus_layer.proofs.PartLines.{head_fits, IsWithin, is_within, all_below}
 use Rattle.replicated_log.specs.EntryLength.{entry_length}
 use Rattle.replicated_log.specs.LogSaid.{LogSaid}
 use Rattle.replicated_log.specs.declared.log_lines.LogStage.{LogStage}
 use Rattle.replicated_log.specs.declared.log_lines.LogStage.TheVariants.{Unread, Begun, Valued}
 use Rattle.replicated_log.specs.declared.log_lines.LogStage.TheVariants.{Keeping}
-use Rattle.replicated_log.specs.LogPart.{LogSoFar, nothing_read_over, values_tested}
-use Rattle.replicated_log.specs.LogPart.{keep_tested, numbers_behind, commands_tested, commands_in}
-use Rattle.replicated_log.specs.LogPart.{goes_at, goes_with, end_step, step_at, log_step}
+use Rattle.replicated_log.specs.LogPart.{LogSoFar, nothing_read_over, commands_tested, commands_in}
+use Rattle.replicated_log.specs.LogPart.{at_stage, with_own, end_step, step_at, log_step}
 use Rattle.replicated_log.specs.LogPart.{part_over, part_of, AreInRange, IsForNumbers, IsFor}
-
-abbrev IsValues : ℕ → Type 0
-IsValues values = (2 ≤ values) × (values ≤ 65536)
-
-abbrev IsKeep : ℕ → Type 0
-IsKeep keep = (1 ≤ keep) × (keep ≤ 1024)
 
 abbrev IsWhole : Numbers → Type 0
 IsWhole numbers = numbers.modulus % (numbers.nodes * entry_length numbers.faults) ≡ 0
 
--- the stage is one behind the first line, with numbers in range
+-- the stage is one after the first line, with numbers in range
 abbrev IsStage : LogStage → Type 0
 IsStage Unread = ⊤
 IsStage Begun = ⊤
-IsStage (Valued values) = IsValues values
-IsStage (Keeping values keep) = IsValues values × IsKeep keep
+IsStage (Valued values) = IsWithin 2 65536 values
+IsStage (Keeping values keep) = IsWithin 2 65536 values × IsWithin 1 1024 keep
 
 -- ---- the commands of a node
 
 abbrev IsOwn : (values : ℕ) → List ℕ → Type 0
 IsOwn values own = (0 < length own) × All (λ a. a < values) own
 
-all_below : (values : ℕ) (own : List ℕ) → list_all (λ a. nat_lt a values) own ≡ true
-    → All (λ a. a < values) own
-all_below values [] e = All-nil (λ a. a < values)
-all_below values (a ∷ own) e =
-    let p = and_parts (nat_lt a values) (list_all (λ b. nat_lt b values) own) e in
-    All-cons (λ b. b < values) a own (ltb-true a values p.0) (all_below values own p.1)
+-- a line has at most 16 commands
+abbrev pub IsShort : List ℕ → Type 0
+IsShort own = length own ≤ 16
 
 commands_by : (values : ℕ) (c : ℕ) (cs : List ℕ) (many other below : Bool)
-    → list_all (λ a. nat_lt a values) (c ∷ cs) ≡ below
+    → nat_lt 16 (length (c ∷ cs)) ≡ many → list_all (λ a. nat_lt a values) (c ∷ cs) ≡ below
     → IfOk (if many then Err Limit else if not other then Err Node else if not below then Err Range
-    else Ok (c ∷ cs)) (IsOwn values)
-commands_by values c cs true other below e = tt
-commands_by values c cs false false below e = tt
-commands_by values c cs false true false e = tt
-commands_by values c cs false true true e = (omega arith, all_below values (c ∷ cs) e)
+    else Ok (c ∷ cs)) (λ own. IsOwn values own × IsShort own)
+commands_by values c cs true other below e e' = tt
+commands_by values c cs false false below e e' = tt
+commands_by values c cs false true false e e' = tt
+commands_by values c cs false true true e e' =
+    ((omega arith, all_below values (c ∷ cs) e'), ltb-false 16 (length (c ∷ cs)) e)
 
 tested : (values before : ℕ) (numbers : Option (List ℕ))
-    → IfOk (commands_tested values before numbers) (IsOwn values)
+    → IfOk (commands_tested values before numbers) (λ own. IsOwn values own × IsShort own)
 tested values before None = tt
 tested values before (Some []) = tt
 tested values before (Some (v ∷ [])) = tt
 tested values before (Some (v ∷ c ∷ cs)) =
     commands_by values c cs (nat_lt 16 (length (c ∷ cs))) (v == before)
-    (list_all (λ a. nat_lt a values) (c ∷ cs)) refl
+    (list_all (λ a. nat_lt a values) (c ∷ cs)) refl refl
 
-abbrev IsOneMore : (values nodes before : ℕ) → List ℕ → Type 0
-IsOneMore values nodes before own = (before < nodes) × IsOwn values own
+record IsOneMore (values nodes before : ℕ) (own : List ℕ) : Type 0 where
+  room : before < nodes
+  right : IsOwn values own
+  short : IsShort own
 
 if_left : (values nodes before : ℕ) (left : Bool) (read : Result (List ℕ) Rule)
-    → nat_lt before nodes ≡ left → IfOk read (IsOwn values)
+    → nat_lt before nodes ≡ left → IfOk read (λ own. IsOwn values own × IsShort own)
     → IfOk (if left then read else Err Form) (IsOneMore values nodes before)
 if_left values nodes before false read e own = tt
 if_left values nodes before true (Err rule) e own = tt
-if_left values nodes before true (Ok commands) e own = (ltb-true before nodes e, own)
+if_left values nodes before true (Ok commands) e own =
+    record { room = ltb-true before nodes e; right = own.0; short = own.1 }
 
 read_fits : (values nodes before : ℕ) (line : List ℕ)
     → IfOk (commands_in values nodes before line) (IsOneMore values nodes before)
 read_fits values nodes before line =
-    let numbers = numbers_behind (codes "commands") (words_of line) in
+    let numbers = all_numbers_after (codes "commands") (words_of line) in
     if_left values nodes before (nat_lt before nodes) (commands_tested values before numbers) refl
     (tested values before numbers)
 
@@ -99,7 +95,7 @@ AreCommands Begun commands = commands ≡ []
 AreCommands (Valued values) commands = commands ≡ []
 AreCommands (Keeping values keep) commands = AreInRange values commands
 
--- behind its first line the part is one for the counter
+-- after its first line the part is one for the counter
 abbrev IsBegun : Numbers → LogStage → Type 0
 IsBegun numbers Unread = ⊤
 IsBegun numbers Begun = IsWhole numbers
@@ -113,80 +109,67 @@ record FitSoFar (numbers : Numbers) (s : LogSoFar) : Type 0 where
   stage : IsStage s.stage
   few : length s.commands ≤ s.nodes
   commands : AreCommands s.stage s.commands
+  short : All IsShort s.commands
 
 module _ (numbers : Numbers) where
-  abbrev Goes : Next LogSoFar LogSaid Rule → Type 0
-  Goes next = After (FitSoFar numbers) (IsForNumbers numbers) next
+  -- it fits, and can be written
+  abbrev IsSaid : LogSaid → Type 0
+  IsSaid said = IsForNumbers numbers said × All IsShort said.commands
 
-  headed : (s : LogSoFar) (is whole : Bool) → s.whole ≡ whole → s.stage ≡ Unread → FitSoFar numbers
-      s
-      → Goes (goes_at s (if is then (if whole then Ok Begun else Err Slot) else Err Form))
-  headed s false whole e at fit = tt
-  headed s true false e at fit = tt
-  headed s true true e at fit = record {
+  abbrev Goes : Next LogSoFar LogSaid Rule → Type 0
+  Goes next = After (FitSoFar numbers) IsSaid next
+
+  headed : (s : LogSoFar) → s.stage ≡ Unread → FitSoFar numbers s → s.whole ≡ true
+      → FitSoFar numbers (at_stage s Begun)
+  headed s at fit e = record {
     nodes = fit.nodes;
     whole = fit.whole;
     begun = fit.whole e;
     stage = tt;
     few = fit.few;
     commands = subst (λ stage. AreCommands stage s.commands) at fit.commands;
+    short = fit.short;
   }
 
-  valued : (s : LogSoFar) (given : Option (List ℕ)) → s.stage ≡ Begun → FitSoFar numbers s
-      → Goes (goes_at s (values_tested given))
-  valued s None at fit = tt
-  valued s (Some []) at fit = tt
-  valued s (Some (v ∷ w ∷ more)) at fit = tt
-  valued s (Some (v ∷ [])) at fit = by (nat_lt 65536 v) (nat_lt v 2) refl refl where
-    by : (large small : Bool) → nat_lt 65536 v ≡ large → nat_lt v 2 ≡ small
-        → Goes (goes_at s (if large then Err Limit else if small then Err Range else Ok (Valued v)))
-    by true small e e' = tt
-    by false true e e' = tt
-    by false false e e' = record {
-      nodes = fit.nodes;
-      whole = fit.whole;
-      begun = subst (IsBegun numbers) at fit.begun;
-      stage = (ltb-false v 2 e', ltb-false 65536 v e);
-      few = fit.few;
-      commands = subst (λ stage. AreCommands stage s.commands) at fit.commands;
-    }
+  valued : (s : LogSoFar) → s.stage ≡ Begun → FitSoFar numbers s → (values : ℕ)
+      → IsWithin 2 65536 values → FitSoFar numbers (at_stage s (Valued values))
+  valued s at fit values within = record {
+    nodes = fit.nodes;
+    whole = fit.whole;
+    begun = subst (IsBegun numbers) at fit.begun;
+    stage = within;
+    few = fit.few;
+    commands = subst (λ stage. AreCommands stage s.commands) at fit.commands;
+    short = fit.short;
+  }
 
-  kept : (s : LogSoFar) (values : ℕ) (given : Option (List ℕ)) → s.stage ≡ Valued values
-      → FitSoFar numbers s → Goes (goes_at s (keep_tested values given))
-  kept s values None at fit = tt
-  kept s values (Some []) at fit = tt
-  kept s values (Some (k ∷ l ∷ more)) at fit = tt
-  kept s values (Some (k ∷ [])) at fit = by (nat_lt 1024 k) (nat_lt k 1) refl refl where
-    none : s.commands ≡ []
-    none = subst (λ stage. AreCommands stage s.commands) at fit.commands
+  kept : (s : LogSoFar) (values : ℕ) → s.stage ≡ Valued values → FitSoFar numbers s → (keep : ℕ)
+      → IsWithin 1 1024 keep → FitSoFar numbers (at_stage s (Keeping values keep))
+  kept s values at fit keep within =
+      let none : s.commands ≡ [] = subst (λ stage. AreCommands stage s.commands) at fit.commands in
+      record {
+        nodes = fit.nodes;
+        whole = fit.whole;
+        begun = subst (IsBegun numbers) at fit.begun;
+        stage = (subst IsStage at fit.stage, within);
+        few = fit.few;
+        commands = subst (AreInRange values) (sym none) (All-nil (IsOwn values));
+        short = fit.short;
+      }
 
-    by : (large small : Bool) → nat_lt 1024 k ≡ large → nat_lt k 1 ≡ small
-        → Goes (goes_at s (if large then Err Limit else if small then Err Range
-        else Ok (Keeping values k)))
-    by true small e e' = tt
-    by false true e e' = tt
-    by false false e e' = record {
-      nodes = fit.nodes;
-      whole = fit.whole;
-      begun = subst (IsBegun numbers) at fit.begun;
-      stage = (subst IsStage at fit.stage, (ltb-false k 1 e', ltb-false 1024 k e));
-      few = fit.few;
-      commands = subst (AreInRange values) (sym none) (All-nil (IsOwn values));
-    }
-
-  with_own : (s : LogSoFar) (values keep : ℕ) (read : Result (List ℕ) Rule)
-      → s.stage ≡ Keeping values keep → FitSoFar numbers s
-      → IfOk read (IsOneMore values s.nodes (length s.commands)) → Goes (goes_with s read)
-  with_own s values keep (Err rule) at fit one = tt
-  with_own s values keep (Ok own) at fit one = record {
+  owned : (s : LogSoFar) (values keep : ℕ) → s.stage ≡ Keeping values keep → FitSoFar numbers s
+      → (own : List ℕ) → IsOneMore values s.nodes (length s.commands) own
+      → FitSoFar numbers (with_own s own)
+  owned s values keep at fit own one = record {
     nodes = fit.nodes;
     whole = fit.whole;
     begun = fit.begun;
     stage = fit.stage;
-    few = let room = one.0 in omega (arith, length_push s.commands own, room);
+    few = let room = one.room in omega (arith, length_push s.commands own, room);
     commands = subst (λ stage. AreCommands stage (s.commands ++ own ∷ [])) (sym at)
         (All-push (IsOwn values) s.commands own
-        (subst (λ stage. AreCommands stage s.commands) at fit.commands) one.1);
+        (subst (λ stage. AreCommands stage s.commands) at fit.commands) one.right);
+    short = All-push IsShort s.commands own fit.short one.short;
   }
 
   said : (s : LogSoFar) (values keep : ℕ) (left : Bool) → nat_lt (length s.commands) s.nodes ≡ left
@@ -197,33 +180,47 @@ module _ (numbers : Numbers) where
   said s values keep false e at fit =
       let held = subst IsStage at fit.stage in
       let most = fit.few in
-      let nodes = fit.nodes in
-      record {
-        whole = subst (IsBegun numbers) at fit.begun;
-        two = held.0.0;
-        few = held.0.1;
-        some = held.1.0;
-        short = held.1.1;
-        nodes = omega (arith, ltb-false (length s.commands) s.nodes e, most, nodes);
-        range = subst (λ stage. AreCommands stage s.commands) at fit.commands;
-      }
+      let nodes = fit.nodes in (
+        record {
+          whole = subst (IsBegun numbers) at fit.begun;
+          two = held.0.0;
+          few = held.0.1;
+          some = held.1.0;
+          short = held.1.1;
+          nodes = omega (arith, ltb-false (length s.commands) s.nodes e, most, nodes);
+          range = subst (λ stage. AreCommands stage s.commands) at fit.commands;
+        },
+        fit.short,
+      )
 
   ended : (s : LogSoFar) (values keep : ℕ) (is : Bool) (line : List ℕ)
       → s.stage ≡ Keeping values keep → FitSoFar numbers s
       → Goes (if is then end_step values keep s
-      else goes_with s (commands_in values s.nodes (length s.commands) line))
+      else goes_on (with_own s) (commands_in values s.nodes (length s.commands) line))
   ended s values keep true line at fit =
       said s values keep (nat_lt (length s.commands) s.nodes) refl at fit
   ended s values keep false line at fit =
-      with_own s values keep (commands_in values s.nodes (length s.commands) line) at fit
-      (read_fits values s.nodes (length s.commands) line)
+      goes_on_keeps (FitSoFar numbers) IsSaid (with_own s)
+      (IsOneMore values s.nodes (length s.commands))
+      (commands_in values s.nodes (length s.commands) line)
+      (read_fits values s.nodes (length s.commands) line) (owned s values keep at fit)
 
   stepped : (stage : LogStage) (s : LogSoFar) (line : List ℕ) → s.stage ≡ stage → FitSoFar numbers s
       → Goes (step_at stage s line)
-  stepped Unread s line at fit = headed s (bytes_eq line (codes "log 1")) s.whole refl at fit
-  stepped Begun s line at fit = valued s (numbers_after (codes "values") 1 (words_of line)) at fit
+  stepped Unread s line at fit =
+      goes_on_keeps (FitSoFar numbers) IsSaid (λ _. at_stage s Begun)
+      (λ _. s.whole ≡ true) (head_tested (codes "log 1") s.whole line)
+      (head_fits (codes "log 1") s.whole line) (λ _ e. headed s at fit e)
+  stepped Begun s line at fit =
+      goes_on_keeps (FitSoFar numbers) IsSaid
+      (λ values. at_stage s (Valued values)) (IsWithin 2 65536)
+      (number_within (codes "values") 2 65536 line) (is_within (codes "values") 2 65536 line)
+      (valued s at fit)
   stepped (Valued values) s line at fit =
-      kept s values (numbers_after (codes "keep") 1 (words_of line)) at fit
+      goes_on_keeps (FitSoFar numbers) IsSaid
+      (λ keep. at_stage s (Keeping values keep)) (IsWithin 1 1024)
+      (number_within (codes "keep") 1 1024 line) (is_within (codes "keep") 1 1024 line)
+      (kept s values at fit)
   stepped (Keeping values keep) s line at fit =
       ended s values keep (bytes_eq line (codes "end")) line at fit
 
@@ -236,18 +233,31 @@ module _ (numbers : Numbers) where
     stage = tt;
     few = omega arith;
     commands = refl;
+    short = All-nil IsShort;
   }
+
+pub log_is_said : (numbers : Numbers) (number : ℕ) (lines : List (List ℕ))
+    → IfOk (part_over numbers number lines) (λ found. IsSaid numbers found.value)
+log_is_said numbers number lines =
+    skipping_keeps log_step Form (FitSoFar numbers) (IsSaid numbers)
+    (λ s line fit. stepped numbers s.stage s line refl fit)
+    lines (nothing_read_over numbers) 0 number (begins numbers)
 
 -- what is read is for the counter
 pub log_fits_over : (numbers : Numbers) (number : ℕ) (lines : List (List ℕ))
     → IfOk (part_over numbers number lines) (λ found. IsForNumbers numbers found.value)
 log_fits_over numbers number lines =
-    part_keeps _ Form (FitSoFar numbers) (IsForNumbers numbers)
-    (λ s line fit. skips_keep log_step Form (FitSoFar numbers) (IsForNumbers numbers) s line fit
-    (stepped numbers s.stage s line refl fit))
-    lines (nothing_read_over numbers) 0 number (begins numbers)
+    found_weaker (IsSaid numbers) (IsForNumbers numbers) (λ said is. is.0)
+    (part_over numbers number lines) (log_is_said numbers number lines)
 
 -- so it is for that of a plan
 pub log_fits : (plan : Plan) (number : ℕ) (lines : List (List ℕ))
     → IfOk (part_of plan number lines) (λ found. IsFor plan found.value)
 log_fits plan = log_fits_over (numbers_of plan)
+
+-- and each node has at most 16 commands
+pub logs_are_short : (plan : Plan) (number : ℕ) (lines : List (List ℕ))
+    → IfOk (part_of plan number lines) (λ found. All IsShort found.value.commands)
+logs_are_short plan number lines =
+    found_weaker (IsSaid (numbers_of plan)) (λ said. All IsShort said.commands) (λ said is. is.1)
+    (part_of plan number lines) (log_is_said (numbers_of plan) number lines)

@@ -1,36 +1,32 @@
 -- The text of a log part is read as what it says.
-use Rattle.std.proofs.Common.{◌≡◌, ℕ, suc, ◌+◌, ◌*◌, ◌%◌, ◌<◌, ◌≤◌, Bool, true, List, [], ◌∷◌, ◌++◌}
-use Rattle.std.proofs.Common.{length, map, get_or, All, Option, Some, Result, Ok, Err, refl, sym}
-use Rattle.std.proofs.Common.{ap}
-use Rattle.std.proofs.Common.{subst, ◌∙◌, append_assoc, arith}
+use Rattle.std.proofs.Common.{◌≡◌, ℕ, ◌+◌, ◌*◌, ◌%◌, ◌<◌, ◌≤◌, Bool, true, List, [], ◌∷◌, ◌++◌}
+use Rattle.std.proofs.Common.{length, map, get_or, All, Result, Ok, Err, refl, sym, ap, subst, ◌∙◌}
+use Rattle.std.proofs.Common.{Some, arith}
 use Rattle.std.specs.Prelude.{codes, decimal, nat_lt, ◌==◌, if◌then◌else◌}
 use Rattle.std.specs.List.{list_all}
 use Rattle.std.proofs.lemmas.Bool.{lt-ltb, le-ltb, eq-eqb}
-use Rattle.std.proofs.lemmas.List.{append-nil, length-append, length-map, length_push}
-use Rattle.std.proofs.lemmas.List.{get_or-append-add}
-use Rattle.std.proofs.lemmas.List.Sums.{list_all-from_AllPass}
-use Rattle.std.proofs.lemmas.List.Elements.{All-get_or, All-weaker}
+use Rattle.std.proofs.lemmas.List.{length-append, get_or-append-add}
+use Rattle.std.proofs.lemmas.List.Elements.{All-get_or}
 use Rattle.texts.specs.Words.{text_of}
 use Rattle.texts.specs.Lines.{lines_of, words_of}
-use Rattle.texts.specs.Shapes.{numbers_of, numbers_after}
-use Rattle.texts.specs.Parts.{goes, ends, refuses, with_skips, Found, At, part_from}
-use Rattle.texts.proofs.Printed.{IsPlain, ArePlain, spaced_length, counts, words_joined}
-use Rattle.texts.proofs.Printed.{goes_behind, ends_there}
+use Rattle.texts.specs.Shapes.{all_numbers_after}
+use Rattle.texts.specs.Parts.{goes, ends, refuses, goes_on, with_skips, Found, At, part_from}
+use Rattle.texts.proofs.ItemLines.{one_plain, text_more, items_read}
+use Rattle.texts.proofs.NumberLines.{AreShort, are_short, numbers_short, line_plain}
+use Rattle.texts.proofs.NumberLines.{all_numbers_back}
+use Rattle.texts.proofs.Printed.{IsPlain, spaced_length, counts, goes_behind}
 use Rattle.sync_types.specs.declared.answers.Rule.{Rule}
 use Rattle.sync_types.specs.declared.answers.Rule.TheVariants.{Form, Slot}
 use Rattle.layer_laws.specs.Numbers.{Numbers, AreNumbers, numbers_of as plan_numbers}
 use Rattle.layer_laws.proofs.PlanCounters.{plan_numbers_are}
-use Rattle.consensus_layer.proofs.AgreeTexts.{small_plain, small_short, small_read, all_plain}
-use Rattle.consensus_layer.proofs.AgreeTexts.{all_short, all_read, values_plain, one_plain}
-use Rattle.consensus_layer.proofs.AgreeTexts.{end_plain, text_more}
+use Rattle.consensus_layer.proofs.AgreeTexts.{values_plain}
+use Rattle.consensus_layer.proofs.PartLines.{within_back, below_pass, below_short}
 use Rattle.replicated_log.specs.declared.log_lines.LogStage.{LogStage}
-use Rattle.replicated_log.specs.declared.log_lines.LogStage.TheVariants.{Unread, Begun, Valued}
-use Rattle.replicated_log.specs.declared.log_lines.LogStage.TheVariants.{Keeping}
+use Rattle.replicated_log.specs.declared.log_lines.LogStage.TheVariants.{Begun, Valued, Keeping}
 use Rattle.replicated_log.specs.EntryLength.{entry_length}
 use Rattle.replicated_log.specs.LogSaid.{LogSaid}
-use Rattle.replicated_log.specs.LogPart.{LogSoFar, nothing_read_over, values_tested, keep_tested}
-use Rattle.replicated_log.specs.LogPart.{numbers_behind, commands_tested, commands_in, goes_at}
-use Rattle.replicated_log.specs.LogPart.{goes_with, log_step, IsForNumbers}
+use Rattle.replicated_log.specs.LogPart.{LogSoFar, nothing_read_over, commands_tested, commands_in}
+use Rattle.replicated_log.specs.LogPart.{at_stage, with_own, log_step, IsForNumbers}
 use Rattle.replicated_log.specs.LogTexts.{values_line, keep_line, commands_line, commands_lines}
 use Rattle.replicated_log.specs.LogTexts.{log_text, LogTextIsReadOver, LogTextIsRead}
 
@@ -75,48 +71,25 @@ module _ (numbers : Numbers) (fine : AreNumbers numbers) (said : LogSaid)
 
   -- ---- the values, and how many entries are kept
 
-  values_words : ArePlain (codes "values" ∷ decimal said.values ∷ [])
-  values_words = (values_plain, (small_plain said.values for.few, tt))
-
-  values_are : numbers_after (codes "values") 1
-      (codes "values" ∷ decimal said.values ∷ []) ≡ Some (said.values ∷ [])
-  values_are = rw (small_read said.values for.few) refl
-
-  valued : values_tested (Some (said.values ∷ [])) ≡ Ok (Valued said.values)
-  valued = rw (le-ltb 65536 said.values for.few, le-ltb said.values 2 for.two) refl
+  values_short : AreShort (said.values ∷ [])
+  values_short = let few = for.few in (omega (arith, few), tt)
 
   values_step : log_step (so_far Begun []) (values_line said)
       ≡ goes (so_far (Valued said.values) [])
   values_step =
-      ap (λ (ws : List (List ℕ)). goes_at (so_far Begun [])
-      (values_tested (numbers_after (codes "values") 1 ws)))
-      (words_joined (codes "values") (decimal said.values ∷ []) values_words)
-      ∙ ap (λ (ns : Option (List ℕ)). goes_at (so_far Begun []) (values_tested ns)) values_are
-      ∙ ap (goes_at (so_far Begun [])) valued
+      ap (goes_on (λ values. at_stage (so_far Begun []) (Valued values)))
+      (within_back (codes "values") values_plain 2 65536 said.values values_short.0
+      (for.two, for.few))
 
-  keep_small : said.keep ≤ 65536
-  keep_small = let most = for.short in omega (arith, most)
-
-  keep_words : ArePlain (codes "keep" ∷ decimal said.keep ∷ [])
-  keep_words = (keep_plain, (small_plain said.keep keep_small, tt))
-
-  keep_are : numbers_after (codes "keep") 1 (codes "keep" ∷ decimal said.keep ∷ [])
-      ≡ Some (said.keep ∷ [])
-  keep_are = rw (small_read said.keep keep_small) refl
-
-  kept : keep_tested said.values (Some (said.keep ∷ [])) ≡ Ok (Keeping said.values said.keep)
-  kept = rw (le-ltb 1024 said.keep for.short, le-ltb said.keep 1 for.some) refl
+  keep_short : AreShort (said.keep ∷ [])
+  keep_short = let most = for.short in (omega (arith, most), tt)
 
   keep_step : log_step (so_far (Valued said.values) []) (keep_line said) ≡ goes (keeping [])
   keep_step =
-      let s = so_far (Valued said.values) [] in
-      ap (λ (ws : List (List ℕ)). goes_at s
-      (keep_tested said.values (numbers_after (codes "keep") 1 ws)))
-      (words_joined (codes "keep") (decimal said.keep ∷ []) keep_words)
-      ∙ ap (λ (ns : Option (List ℕ)). goes_at s (keep_tested said.values ns)) keep_are
-      ∙ ap (goes_at s) kept
+      ap (goes_on (λ keep. at_stage (so_far (Valued said.values) []) (Keeping said.values keep)))
+      (within_back (codes "keep") keep_plain 1 1024 said.keep keep_short.0 (for.some, for.short))
 
-  -- ---- the commands of a node, behind those of others
+  -- ---- the commands of a node, after those of others
 
   module _ (done more : List (List ℕ)) (own : List ℕ)
       (all_are : said.commands ≡ done ++ own ∷ more) where
@@ -142,54 +115,39 @@ module _ (numbers : Numbers) (fine : AreNumbers numbers) (said : LogSaid)
         (All-get_or (λ own. (0 < length own) × All (λ a. a < said.values) own) said.commands v []
         (omega (arith, long)) for.range)
 
-    small : All (λ n. n ≤ 65536) own
-    small =
-        let most = for.few in
-        All-weaker (λ n. n < said.values) (λ n. n ≤ 65536) (λ n lt. omega (arith, most, lt)) own
-        in_range.1
-
     v_below : v < numbers.nodes
     v_below = let nodes = for.nodes in omega (arith, nodes, long)
 
-    v_small : v ≤ 65536
-    v_small = let most = fine.few in omega (arith, most, v_below)
+    -- the numbers of its line
+    line_short : AreShort (v ∷ own)
+    line_short =
+        let most = fine.few in
+        let values = for.few in (
+          omega (arith, most, v_below),
+          are_short own (below_short said.values (omega (arith, values)) own in_range.1),
+        )
 
-    words : ArePlain (codes "commands" ∷ decimal v ∷ map decimal own)
-    words = (commands_plain, (small_plain v v_small, all_plain own small))
-
-    room : spaced_length (codes "commands" ∷ decimal v ∷ map decimal own) ≤ 4096
-    room = omega (arith, few, small_short v v_small, all_short own small)
-
-    numbers_are : numbers_behind (codes "commands") (codes "commands" ∷ decimal v ∷ map decimal own)
-        ≡ Some (v ∷ own)
-    numbers_are =
-        ap (λ n. numbers_of (suc n) (decimal v ∷ map decimal own)) (length-map own decimal)
-        ∙ rw (small_read v v_small, all_read own small) refl
-
-    below : list_all (λ a. nat_lt a said.values) own ≡ true
-    below = list_all-from_AllPass (λ a. nat_lt a said.values) own
-        (All-weaker (λ a. a < said.values) (λ a. nat_lt a said.values ≡ true)
-        (λ a lt. lt-ltb a said.values lt) own in_range.1)
+    room : spaced_length (codes "commands" ∷ map decimal (v ∷ own)) ≤ 4096
+    room = omega (arith, few, numbers_short (v ∷ own) line_short)
 
     tested : commands_in said.values (numbers.nodes) v (commands_line v own) ≡ Ok own
     tested =
         ap (λ (b : Bool). if b then commands_tested said.values v
-        (numbers_behind (codes "commands") (words_of (commands_line v own))) else Err Form)
+        (all_numbers_after (codes "commands") (words_of (commands_line v own))) else Err Form)
         (lt-ltb v (numbers.nodes) v_below)
-        ∙ ap (λ (ws : List (List ℕ)). commands_tested said.values v
-        (numbers_behind (codes "commands") ws))
-        (words_joined (codes "commands") (decimal v ∷ map decimal own) words)
-        ∙ ap (commands_tested said.values v) numbers_are
-        ∙ commands_pass said.values v own in_range.0 few below
+        ∙ ap (commands_tested said.values v)
+        (all_numbers_back (codes "commands") commands_plain (v ∷ own) line_short)
+        ∙ commands_pass said.values v own in_range.0 few (below_pass said.values own in_range.1)
 
     steps : log_step (keeping done) (commands_line v own) ≡ goes (keeping (done ++ own ∷ []))
-    steps = ap (goes_with (keeping done)) tested
+    steps = ap (goes_on (with_own (keeping done))) tested
 
     line_read : (taken number : ℕ) (rest : List ℕ)
         → read_on (keeping done) taken number (commands_line v own ++ 10 ∷ rest)
         ≡ read_on (keeping (done ++ own ∷ [])) (taken + 1) (number + 1) rest
     line_read taken number rest =
-        goes_behind log_step Form (codes "commands") (decimal v ∷ map decimal own) rest words room
+        goes_behind log_step Form (codes "commands") (map decimal (v ∷ own)) rest
+        (line_plain (codes "commands") commands_plain (v ∷ own) line_short) room
         (counts (commands_line v own) (omega arith) refl) (keeping done) taken number
         (keeping (done ++ own ∷ [])) steps
 
@@ -201,47 +159,27 @@ module _ (numbers : Numbers) (fine : AreNumbers numbers) (said : LogSaid)
       ap (λ (b : Bool). if b then refuses Form else ends said)
       (le-ltb (length said.commands) (numbers.nodes) (omega (arith, nodes)))
 
-  end_read : (taken number : ℕ) (rest : List ℕ)
-      → read_on (keeping said.commands) taken number (text_of (codes "end" ∷ []) ++ rest)
-      ≡ Ok (record { value = said; taken = taken + 1; behind = lines_of rest })
-  end_read taken number rest =
-      ap (read_on (keeping said.commands) taken number) (text_more (codes "end") [] rest)
-      ∙ ends_there log_step Form (codes "end") [] rest (end_plain, tt) (omega arith) refl
-      (keeping said.commands) taken number said end_is
-
-  lines_read : (done more : List (List ℕ)) (taken number : ℕ) (rest : List ℕ)
-      → said.commands ≡ done ++ more
-      → read_on (keeping done) taken number
-      (text_of (commands_lines (length done) more ++ codes "end" ∷ []) ++ rest)
+  lines_read : (number : ℕ) (rest : List ℕ)
+      → read_on (keeping []) 3 number
+      (text_of (commands_lines 0 said.commands ++ codes "end" ∷ []) ++ rest)
       ≡ Ok (record {
         value = said;
-        taken = taken + (length more + 1);
+        taken = 3 + (length said.commands + 1);
         behind = lines_of rest;
       })
-  lines_read done [] taken number rest all_are =
-      let same : done ≡ said.commands = sym (all_are ∙ append-nil done) in
-      ap (λ (d : List (List ℕ)). read_on (keeping d) taken number
-      (text_of (codes "end" ∷ []) ++ rest)) same
-      ∙ end_read taken number rest
-  lines_read done (own ∷ more) taken number rest all_are =
-      let ended = commands_lines (length done + 1) more ++ codes "end" ∷ [] in
-      let same : done ++ own ∷ more ≡ (done ++ own ∷ []) ++ more =
-      sym (append_assoc done (own ∷ []) more) in
-      let next : length done + 1 ≡ length (done ++ own ∷ []) = sym (length_push done own) in
-      let count : taken + 1 + (length more + 1) ≡ taken + (length (own ∷ more) + 1) = omega arith in
-      ap (read_on (keeping done) taken number)
-      (text_more (commands_line (length done) own) ended rest)
-      ∙ line_read done more own all_are taken number (text_of ended ++ rest)
-      ∙ ap (λ n. read_on (keeping (done ++ own ∷ [])) (taken + 1) (number + 1)
-      (text_of (commands_lines n more ++ codes "end" ∷ []) ++ rest)) next
-      ∙ lines_read (done ++ own ∷ []) more (taken + 1) (number + 1) rest (all_are ∙ same)
-      ∙ rw count refl
+  lines_read number rest =
+      items_read log_step Form keeping (λ _. said) commands_line commands_lines (λ n. refl)
+      (λ n own more. refl) (λ commands. said.commands ≡ commands)
+      (λ done more own all_are. line_read done more own all_are)
+      (λ commands same. ap (λ (c : List (List ℕ)). log_step (keeping c) (codes "end")) (sym same)
+      ∙ end_is)
+      [] said.commands 3 number rest refl
 
   -- ---- all lines
 
   head_is : log_step (nothing_read_over numbers) (codes "log 1") ≡ goes (so_far Begun [])
   head_is =
-      ap (λ (b : Bool). goes_at (so_far Unread []) (if b then Ok Begun else Err Slot))
+      ap (λ (b : Bool). goes_on (λ (x : Unit). so_far Begun []) (if b then Ok tt else Err Slot))
       (eq-eqb (numbers.modulus % (numbers.nodes * entry_length numbers.faults)) 0 for.whole)
 
   abbrev fourth : List ℕ → List ℕ
@@ -274,14 +212,16 @@ module _ (numbers : Numbers) (fine : AreNumbers numbers) (said : LogSaid)
       (log_plain, (one_plain, tt)) (omega arith) refl (nothing_read_over numbers) 0 number
       (so_far Begun []) head_is
       ∙ goes_behind log_step Form (codes "values") (decimal said.values ∷ []) (third rest)
-      values_words (omega (arith, small_short said.values for.few))
+      (line_plain (codes "values") values_plain (said.values ∷ []) values_short)
+      (omega (arith, numbers_short (said.values ∷ []) values_short))
       (counts (values_line said) (omega arith) refl) (so_far Begun []) 1 (number + 1)
       (so_far (Valued said.values) []) values_step
       ∙ goes_behind log_step Form (codes "keep") (decimal said.keep ∷ []) (fourth rest)
-      keep_words (omega (arith, small_short said.keep keep_small))
+      (line_plain (codes "keep") keep_plain (said.keep ∷ []) keep_short)
+      (omega (arith, numbers_short (said.keep ∷ []) keep_short))
       (counts (keep_line said) (omega arith) refl) (so_far (Valued said.values) []) 2
       (number + 1 + 1) (keeping []) keep_step
-      ∙ lines_read [] said.commands 3 (number + 1 + 1 + 1) rest refl
+      ∙ lines_read (number + 1 + 1 + 1) rest
 
 pub log_text_is_read_over : LogTextIsReadOver
 log_text_is_read_over = is_read

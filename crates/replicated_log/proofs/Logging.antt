@@ -1,4 +1,4 @@
--- Layers that keep a log: what a node commands may hang on what it keeps, and on its output.
+-- Layers that keep a log: what a node commands may depend on what it keeps, and on its output.
 use Rattle.std.proofs.Common.{◌≡◌, ℕ, ◌+◌, ◌-◌, ◌%◌, ◌<◌, Bool, List, [], ◌∷◌, length, take, get_or}
 use Rattle.std.proofs.Common.{unwrap_or, sym, ap, ◌∙◌, arith}
 use Rattle.std.specs.Prelude.{if◌then◌else◌}
@@ -18,7 +18,7 @@ use Rattle.replicated_log.specs.declared.entries.Entry.{Entry}
 use Rattle.replicated_log.specs.EntryLength.{entry_length, owner_at}
 use Rattle.replicated_log.specs.Logs.{agreement_after, log_after}
 
--- the register of agreement, where the output is past the first of an entry
+-- the register of agreement, if the output is past the first of an entry
 pub agrees_on : (n f depth v output x : ℕ) (heard : List State) → output % entry_length f ≡ 1 + x
     → agreement_after n f depth v output heard ≡ agreed_in_turn n f depth v x heard
 agrees_on n f depth v output x heard rest =
@@ -69,8 +69,8 @@ puts_entry f keep output agreement log rest =
     (eq-eqb (output % entry_length f + 1) (entry_length f) rest)
 
 -- The layer's registers are those of agreement and of commands, and of what a node keeps its log is
--- a part. What is commanded in the round before configuration t is what is said, where the next
--- output is that of a slot.
+-- a part. What is commanded in the round before configuration t is what is said, if the next output
+-- is that of a slot.
 pub record IsLogging {Kept : Type 0} (counter : Meaning) (layer : Layer Kept) (keep : ℕ)
     (logs : Kept → List Entry) (says : (t v slot : ℕ) → ℕ) (first : ℕ) : Type 0 where
   pub same : SameNumbers layer counter

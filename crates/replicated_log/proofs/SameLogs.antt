@@ -31,7 +31,7 @@ use Rattle.replicated_log.specs.PutEntries.{commands_in_turn_over, LogsAreOneOve
 use Rattle.replicated_log.proofs.Logging.{IsLogging, keeps_log, log_is}
 use Rattle.replicated_log.proofs.SlotEntries.{puts_one, takes_turns}
 
--- the front of a list with one more before it
+-- the prefix of a list with one more before it
 one_more : (keep : ℕ) (entry : Entry) (a b : List Entry) → take keep a ≡ take keep b
     → take keep (entry ∷ a) ≡ take keep (entry ∷ b)
 one_more zero entry a b same = refl
@@ -112,7 +112,7 @@ module _ {Kept : Type 0} (counter : Meaning) (is_state : (v : ℕ) → State →
       vlt ok)
       ∙ rest x lt
 
-  -- where a slot ends in round t + x, it puts one entry more
+  -- if a slot ends in round t + x, it puts one entry more
   more : (x : ℕ) → t + suc x < length run → x % e + 1 ≡ e → Same x → Same (suc x)
   more x lt end before =
       let q : ℕ = slot_length counter.faults in

@@ -1,4 +1,4 @@
--- What a round of the log does where it begins an entry, and where it takes a turn of its slot.
+-- What a round of the log does if it begins an entry, and if it is a round of a slot.
 use Rattle.std.proofs.Common.{◌≡◌, ◌≢◌, ℕ, ◌+◌, ◌-◌, ◌%◌, Bool, true, false, List, unwrap_or}
 use Rattle.std.proofs.Common.{ap}
 use Rattle.std.specs.Prelude.{◌==◌, if◌then◌else◌}

@@ -29,7 +29,7 @@ pub record Noted : Type 0 where
 abbrev pub nothing : Noted
 nothing = record { round = 0; log = [] }
 
--- The layer of a log of so many entries, in which node v commands this in round t. Where a round
+-- The layer of a log of so many entries, in which node v commands this in round t. When a round
 -- begins, each node notes its number.
 abbrev pub changing_layer_over : Numbers → (values keep : ℕ) → (command : (v t : ℕ) → ℕ)
     → Layer Noted
@@ -61,7 +61,7 @@ abbrev pub log_noted : Scene Noted → (v : ℕ) → List Entry
 log_noted s v = (slice_index_or s.kept v nothing).log
 
 -- What is commanded for a slot that begins in configuration t is what its owner commands in the
--- round before, where rounds are numbered from `first` on.
+-- round before, if rounds are numbered from `first` on.
 abbrev pub commands_before : (command : (v t : ℕ) → ℕ) → (first : ℕ) → (t v slot : ℕ) → ℕ
 commands_before command first t v slot = command v (first + (t - 1))
 

@@ -1,10 +1,8 @@
 pub mod ChangingCommands
 pub mod EntryLength
-pub mod LogAnswers
 pub mod LogLaws
 pub mod LogPart
 pub mod LogReadings
-pub mod LogRefusals
 pub mod LogSaid
 pub mod Logs
 pub mod LogsSeen

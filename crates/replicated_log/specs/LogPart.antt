@@ -6,12 +6,13 @@ use Rattle.std.specs.Prelude.{Result, Ok, Err, if◌then◌else◌, codes}
 use Rattle.std.specs.List.{list_all}
 use Rattle.std.specs.Str.{bytes_eq}
 use Rattle.texts.specs.Lines.{words_of}
-use Rattle.texts.specs.Shapes.{numbers_of, numbers_after}
-use Rattle.texts.specs.Parts.{Next, goes, ends, refuses, with_skips, Found, At, part_from}
+use Rattle.texts.specs.Shapes.{all_numbers_after}
+use Rattle.texts.specs.Parts.{Next, ends, refuses, goes_on, with_skips, Found, At, part_from}
 use Rattle.sync_types.specs.declared.answers.Rule.{Rule}
-use Rattle.sync_types.specs.declared.answers.Rule.TheVariants.{Form, Limit, Node, Range, Slot}
+use Rattle.sync_types.specs.declared.answers.Rule.TheVariants.{Form, Limit, Node, Range}
 use Rattle.construction.specs.Plans.{Plan}
 use Rattle.layer_laws.specs.Numbers.{Numbers, numbers_of as plan_numbers}
+use Rattle.consensus_layer.specs.PartLines.{head_tested, number_within}
 use Rattle.replicated_log.specs.EntryLength.{entry_length}
 use Rattle.replicated_log.specs.LogSaid.{LogSaid}
 use Rattle.replicated_log.specs.declared.log_lines.LogStage.{LogStage}
@@ -35,27 +36,6 @@ nothing_read_over numbers = record {
   commands = [];
 }
 
--- the stage behind `log 1`, where the modulus is a multiple of an entry of each node
-abbrev pub behind_head : (whole : Bool) → List ℕ → Result LogStage Rule
-behind_head whole line =
-    if bytes_eq line (codes "log 1") then (if whole then Ok Begun else Err Slot) else Err Form
-
-abbrev pub values_tested : Option (List ℕ) → Result LogStage Rule
-values_tested (Some (v ∷ [])) =
-    if nat_lt 65536 v then Err Limit else if nat_lt v 2 then Err Range else Ok (Valued v)
-values_tested other = Err Form
-
-abbrev pub keep_tested : (values : ℕ) → Option (List ℕ) → Result LogStage Rule
-keep_tested values (Some (k ∷ [])) =
-    if nat_lt 1024 k then Err Limit else if nat_lt k 1 then Err Range else Ok (Keeping values k)
-keep_tested values other = Err Form
-
--- the numbers behind a key, as many as there are words
-abbrev pub numbers_behind : List ℕ → List (List ℕ) → Option (List ℕ)
-numbers_behind key [] = None
-numbers_behind key (word ∷ words) =
-    if bytes_eq word key then numbers_of (length words) words else None
-
 -- the commands of the next node, of which there are so many nodes before it, or the first rule that
 -- the line's numbers fail
 abbrev pub commands_tested : (values before : ℕ) → Option (List ℕ) → Result (List ℕ) Rule
@@ -66,45 +46,45 @@ commands_tested values before (Some (v ∷ c ∷ cs)) =
     else Ok (c ∷ cs)
 commands_tested values before other = Err Form
 
--- `commands v c0 c1 ..`, where a node is left that has no line yet
+-- `commands v c0 c1 ..`, if a node is left that has no line yet
 abbrev pub commands_in : (values nodes before : ℕ) → List ℕ → Result (List ℕ) Rule
 commands_in values nodes before line =
     if nat_lt before nodes
-    then commands_tested values before (numbers_behind (codes "commands") (words_of line))
+    then commands_tested values before (all_numbers_after (codes "commands") (words_of line))
     else Err Form
 
--- the part goes on at a stage, or the line is refused
-abbrev pub goes_at : LogSoFar → Result LogStage Rule → Next LogSoFar LogSaid Rule
-goes_at s (Ok stage) = goes (record s { stage = stage })
-goes_at s (Err rule) = refuses rule
+-- the part at a stage
+abbrev pub at_stage : LogSoFar → LogStage → LogSoFar
+at_stage s stage = record s { stage = stage }
 
--- the part goes on with the commands of one more node, or the line is refused
-abbrev pub goes_with : LogSoFar → Result (List ℕ) Rule → Next LogSoFar LogSaid Rule
-goes_with s (Ok own) = goes (record s { commands = s.commands ++ own ∷ [] })
-goes_with s (Err rule) = refuses rule
+-- the commands of one more node
+abbrev pub with_own : LogSoFar → List ℕ → LogSoFar
+with_own s own = record s { commands = s.commands ++ own ∷ [] }
 
--- `end`, where each node has its line
+-- `end`, if each node has its line
 abbrev pub end_step : (values keep : ℕ) → LogSoFar → Next LogSoFar LogSaid Rule
 end_step values keep s =
     if nat_lt (length s.commands) s.nodes then refuses Form
     else ends (record { values = values; keep = keep; commands = s.commands })
 
--- a line behind those that were read
+-- a line after those that were read
 abbrev pub step_at : LogStage → LogSoFar → List ℕ → Next LogSoFar LogSaid Rule
-step_at Unread s line = goes_at s (behind_head s.whole line)
-step_at Begun s line = goes_at s (values_tested (numbers_after (codes "values") 1 (words_of line)))
+step_at Unread s line =
+    goes_on (λ _. at_stage s Begun) (head_tested (codes "log 1") s.whole line)
+step_at Begun s line =
+    goes_on (λ values. at_stage s (Valued values)) (number_within (codes "values") 2 65536 line)
 step_at (Valued values) s line =
-    goes_at s (keep_tested values (numbers_after (codes "keep") 1 (words_of line)))
+    goes_on (λ keep. at_stage s (Keeping values keep)) (number_within (codes "keep") 1 1024 line)
 step_at (Keeping values keep) s line =
     if bytes_eq line (codes "end") then end_step values keep s
-    else goes_with s (commands_in values s.nodes (length s.commands) line)
+    else goes_on (with_own s) (commands_in values s.nodes (length s.commands) line)
 
 abbrev pub log_step : LogSoFar → List ℕ → Next LogSoFar LogSaid Rule
 log_step s line = step_at s.stage s line
 
--- The log part for a counter at the front of these lines, of which the first has that number: what
--- it says, how many lines it took through `end`, and the lines behind; or the first line that
--- fails, with the first rule that it fails.
+-- The log part for a counter at the beginning of these lines, of which the first has that number:
+-- what it says, how many lines it took through `end`, and the lines after it; or the first line
+-- that fails, with the first rule that it fails.
 abbrev pub part_over : Numbers → (number : ℕ) → List (List ℕ) → Result (Found LogSaid) (At Rule)
 part_over numbers number lines =
     part_from (with_skips log_step Form) Form (nothing_read_over numbers) 0 number lines

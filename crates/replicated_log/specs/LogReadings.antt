@@ -1,44 +1,36 @@
 -- What reading a log part answers.
-use Rattle.std.specs.Prelude.{◌≡◌, ℕ, List, [], Result, Ok, Err, drop, replicate}
-use Rattle.texts.specs.Lines.{lines_of}
+use Rattle.std.specs.Prelude.{◌≡◌, ℕ, List, [], Result, replicate}
+use Rattle.sync_types.specs.declared.answers.Rule.{Rule}
+use Rattle.edge_io.specs.declared.taking.PartError.{PartError}
+use Rattle.edge_io.specs.PartAnswers as parts
 use Rattle.construction.specs.Plans.{Plan}
 use Rattle.layer_laws.specs.Numbers.{Numbers, numbers_of}
 use Rattle.replicated_log.specs.declared.replica.Replica.{Replica}
-use Rattle.replicated_log.specs.declared.refusals.LogError.{LogError}
 use Rattle.replicated_log.specs.Logs.{log_layer_over}
 use Rattle.replicated_log.specs.LogsSeen.{layer_seen, logs_seen}
 use Rattle.replicated_log.specs.LogSaid.{LogSaid}
 use Rattle.replicated_log.specs.LogPart.{part_over}
-use Rattle.replicated_log.specs.LogRefusals.{FailsAsDefined}
 
 -- a log over a counter as it is said, with nothing in it
 pub record IsFreshOver (numbers : Numbers) (said : LogSaid) (replica : Replica) : Type 0 where
   pub layer : layer_seen replica ≡ log_layer_over numbers said
   pub kept : logs_seen replica ≡ replicate numbers.nodes []
 
--- The part that is defined stands at the front of the input, in so many bytes and lines, and this
--- is a log as it says.
-pub record IsReadOver (numbers : Numbers) (number : ℕ) (input : List ℕ) (replica : Replica)
-    (bytes lines : ℕ) : Type 0 where
-  pub said : LogSaid
-  pub part : part_over numbers number (lines_of input)
-      ≡ Ok (record { value = said; taken = lines; behind = lines_of (drop bytes input) })
-  pub fresh : IsFreshOver numbers said replica
+-- the part is read, and this is a log as it says
+abbrev pub IsReadOver : Numbers → (number : ℕ) (input : List ℕ) → Replica → (bytes lines : ℕ)
+    → Type 0
+IsReadOver numbers = parts.IsRead (part_over numbers) (IsFreshOver numbers)
 
 -- it is read, or fails as defined
-abbrev pub IsAnswerOver : Numbers → (number : ℕ) → (input : List ℕ)
-    → Result (Replica × ℕ × ℕ) LogError → Type 0
-IsAnswerOver numbers number input (Ok read) = IsReadOver numbers number input read.0 read.1 read.2
-IsAnswerOver numbers number input (Err error) =
-    FailsAsDefined error (part_over numbers number (lines_of input))
+abbrev pub IsAnswerOver : Numbers → (number : ℕ) (input : List ℕ)
+    → Result (Replica × ℕ × ℕ) (PartError Rule) → Type 0
+IsAnswerOver numbers = parts.IsAnswer (part_over numbers) (IsFreshOver numbers)
 
--- the same over the counter of a plan
-abbrev pub IsFresh : Plan → LogSaid → Replica → Type 0
-IsFresh plan = IsFreshOver (numbers_of plan)
+-- ---- over the counter of a plan
 
-abbrev pub IsRead : Plan → (number : ℕ) → (input : List ℕ) → Replica → (bytes lines : ℕ) → Type 0
+abbrev pub IsRead : Plan → (number : ℕ) (input : List ℕ) → Replica → (bytes lines : ℕ) → Type 0
 IsRead plan = IsReadOver (numbers_of plan)
 
-abbrev pub IsAnswer : Plan → (number : ℕ) → (input : List ℕ) → Result (Replica × ℕ × ℕ) LogError
-    → Type 0
+abbrev pub IsAnswer : Plan → (number : ℕ) (input : List ℕ)
+    → Result (Replica × ℕ × ℕ) (PartError Rule) → Type 0
 IsAnswer plan = IsAnswerOver (numbers_of plan)

@@ -19,8 +19,8 @@ use Rattle.replicated_log.specs.declared.entries.Entry.{Entry}
 use Rattle.replicated_log.specs.EntryLength.{entry_length, owner_at, command_at}
 use Rattle.replicated_log.specs.LogSaid.{LogSaid}
 
--- The register of agreement after a round in which node v hears that: where the output is that of a
--- slot's begin, what the owner commands, as it is heard; else it takes a turn of the slot.
+-- The register of agreement after a round in which node v hears that: if the output is that of a
+-- slot's beginning, what the owner commands, as it is heard; else it takes a round of the slot.
 abbrev pub agreement_after : (n f depth v output : ℕ) (heard : List State) → Reg
 agreement_after n f depth v output heard =
     let p = output % entry_length f in
@@ -37,7 +37,7 @@ log_after f keep output agreement log =
     (record { slot = output - slot_length f; value = unwrap_or agreement.a 0 } ∷ log)
     else log
 
--- The layer of the log: a register of agreement, and behind it one of commands, which has what the
+-- The layer of the log: a register of agreement, and after it one of commands, which has what the
 -- node commands at its next output. A node keeps its log, the newest entry first.
 abbrev pub log_layer_of : (nodes faults modulus depth values keep : ℕ) (commands : List (List ℕ))
     → Layer (List Entry)

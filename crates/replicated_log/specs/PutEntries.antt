@@ -18,7 +18,7 @@ use Rattle.replicated_log.specs.EntryLength.{entry_length, owner_at, command_at}
 use Rattle.replicated_log.specs.LogSaid.{LogSaid}
 use Rattle.replicated_log.specs.Logs.{LogRunOver, LogRun, log_of}
 
--- Of a run of a counter in which each node keeps a log, of its newest entries, so many. In the
+-- Of a run of a counter in which each node keeps a log of so many of its newest entries. In the
 -- round before configuration t node v commands `command t v slot`, for a slot that begins there
 -- with an output.
 module _ {Kept : Type 0} (counter : Meaning) (keep : ℕ) (log : Scene Kept → (v : ℕ) → List Entry)
@@ -51,8 +51,8 @@ module _ {Kept : Type 0} (counter : Meaning) (keep : ℕ) (log : Scene Kept → 
       PutsOver (t + length older * entry_length counter.faults) entry × AreEntriesOver t older
 
   -- Since configuration t the correct nodes have put the same entries into their logs, those of the
-  -- slots that have ended: in configuration t + x, as far as logs go, each has these in front of
-  -- what it had.
+  -- slots that have ended: in configuration t + x, as far as logs go, each has these before what it
+  -- had.
   pub record SameSinceOver (t x : ℕ) : Type 0 where
     pub put : List Entry
     pub many : length put ≡ x / entry_length counter.faults

@@ -15,8 +15,8 @@ use layer_laws::AnyCounter;
 
 /// In every run of a settling counter with a log above, whose modulus is a multiple of an entry of
 /// each node, each slot that begins at the counter's bound or later and ends within the run puts
-/// one and the same entry into the logs of all correct nodes, in its last round. Where it begins
-/// after the bound and its owner is correct, the entry has what the owner commands.
+/// one and the same entry into the logs of all correct nodes, in its last round. If it begins after
+/// the bound and its owner is correct, the entry has what the owner commands.
 pub fn every_slot_puts_one_over<C: AnyCounter>()
     ensures { (c : C) → EverySlotPutsOneOver (C.counter c) (C.is_state c) }
 {}
@@ -27,8 +27,8 @@ pub fn logs_are_one_over<C: AnyCounter>()
     ensures { (c : C) → LogsAreOneOver (C.counter c) (C.is_state c) }
 {}
 
-/// So it is where each node may command something else in each round: where the slot's owner is
-/// correct, the entry has what it commands in the round before the slot.
+/// So it is if each node may command something else in each round: if the slot's owner is correct,
+/// the entry has what it commands in the round before the slot.
 pub fn changing_commands_put_one_over<C: AnyCounter>()
     ensures { (c : C) → ChangingCommandsPutOneOver (C.counter c) (C.is_state c) }
 {}
@@ -49,7 +49,7 @@ pub fn logs_are_one()
     ensures { LogsAreOne }
 {}
 
-/// So it is where each node may command something else in each round.
+/// So it is if each node may command something else in each round.
 pub fn changing_commands_put_one()
     ensures { ChangingCommandsPutOne }
 {}
@@ -73,7 +73,7 @@ pub fn log_fits()
 {}
 
 /// The text of a log for a counter, whose nodes have at most 16 commands each, is read as this log,
-/// at the front of any text.
+/// at the beginning of any text.
 pub fn log_texts_read_back_over()
     ensures { LogTextIsReadOver }
 {}

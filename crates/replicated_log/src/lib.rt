@@ -8,13 +8,11 @@ pub mod laws;
 mod log_lines;
 mod log_parts;
 mod reading;
-mod refusals;
 mod replica;
 
 pub use commands::Commands;
 pub use entries::{Entries, Entry};
 pub use log_lines::{LogLines, entry_length};
 pub use log_parts::LogPart;
-pub use reading::{read_log, read_log_over};
-pub use refusals::{LogError, LogRefusal};
+pub use reading::{LogError, LogRefusal, read_log, read_log_over};
 pub use replica::{Replica, owner_at};

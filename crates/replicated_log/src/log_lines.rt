@@ -1,15 +1,12 @@
-ghost use Rattle.std.specs.Prelude.{◌≡◌, codes};
-ghost use Rattle.texts.specs.Shapes.{numbers_after};
-ghost use Rattle.texts.specs.Lines.{words_of};
+ghost use Rattle.std.specs.Prelude.{◌≡◌};
 ghost use Rattle.replicated_log.specs.EntryLength.{entry_length};
-ghost use Rattle.replicated_log.specs.LogPart.{nothing_read_over, behind_head, values_tested};
-ghost use Rattle.replicated_log.specs.LogPart.{keep_tested, end_step};
+ghost use Rattle.replicated_log.specs.LogPart.{nothing_read_over, end_step};
 
 use crate::command_lines::read_commands;
 use crate::commands::Commands;
 use crate::log_parts::LogPart;
-use consensus_layer::slot_length;
-use edge_io::{LineReader, TakeError, numbers_after};
+use consensus_layer::{head_tested, number_within, slot_length};
+use edge_io::{LineReader, TakeError};
 use layer_laws::CounterNumbers;
 use std::alloc::Global;
 use std::marker::Model;
@@ -31,7 +28,7 @@ pub enum LogStage {
     Begun,
     /// Its line of values: how many there are.
     Valued(u64),
-    /// Its line of what is kept, behind that of values: how many values there are, and how many
+    /// Its line of what is kept, after that of values: how many values there are, and how many
     /// entries a log keeps.
     Keeping(u64, usize),
 }
@@ -66,53 +63,6 @@ impl Model for LogLines {
     } };
 }
 
-/// The stage behind the first line, where the modulus is a multiple of an entry of each node.
-fn behind_head(whole: bool, line: &[u8]) -> Result<LogStage, Rule>
-    ensures { result ≡ behind_head whole line.now }
-{
-    if line != b"log 1".as_slice() {
-        return Err(Rule::Form);
-    }
-    if !whole {
-        return Err(Rule::Slot);
-    }
-    Ok(LogStage::Begun)
-}
-
-/// The stage behind a line of values.
-fn behind_values(line: &[u8]) -> Result<LogStage, Rule>
-    ensures { result ≡ values_tested (numbers_after (codes "values") 1 (words_of line.now)) }
-{
-    let Some(numbers) = numbers_after::<1>(line, b"values") else {
-        return Err(Rule::Form);
-    };
-    let values = numbers[0];
-    if values > MOST_VALUES {
-        return Err(Rule::Limit);
-    }
-    if values < 2 {
-        return Err(Rule::Range);
-    }
-    Ok(LogStage::Valued(values))
-}
-
-/// The stage behind a line of what is kept.
-fn behind_keep(values: u64, line: &[u8]) -> Result<LogStage, Rule>
-    ensures { result ≡ keep_tested values (numbers_after (codes "keep") 1 (words_of line.now)) }
-{
-    let Some(numbers) = numbers_after::<1>(line, b"keep") else {
-        return Err(Rule::Form);
-    };
-    let keep = numbers[0];
-    if keep > MOST_KEPT {
-        return Err(Rule::Limit);
-    }
-    if keep < 1 {
-        return Err(Rule::Range);
-    }
-    Ok(LogStage::Keeping(values, keep as usize))
-}
-
 impl LogLines {
     ghost use Rattle.edge_io.specs.Taking.{Takes};
 
@@ -120,7 +70,7 @@ impl LogLines {
     pub fn new(alloc: Global, numbers: &CounterNumbers) -> LogLines
         ensures { result ≡ nothing_read_over numbers.now }
     {
-        numbers.tell();
+        numbers.facts();
         let nodes = numbers.nodes();
         let round = u64::from(nodes) * entry_length(numbers.faults());
         LogLines {
@@ -132,7 +82,7 @@ impl LogLines {
         }
     }
 
-    /// Gives what the part says, where each node has its line.
+    /// Gives what the part says, if each node has its line.
     fn finish(&mut self, values: u64, keep: usize) -> Result<Option<LogPart>, TakeError<Rule>>
         ensures { Takes (end_step values keep self.old) self.new result }
     {
@@ -160,13 +110,18 @@ impl LineReader for LogLines {
     fn take(&mut self, line: &[u8]) -> Result<Option<LogPart>, TakeError<Rule>> {
         match self.stage {
             LogStage::Unread => {
-                self.stage = behind_head(self.whole, line).map_err(TakeError::Refused)?;
+                head_tested(b"log 1", self.whole, line).map_err(TakeError::Refused)?;
+                self.stage = LogStage::Begun;
             }
             LogStage::Begun => {
-                self.stage = behind_values(line).map_err(TakeError::Refused)?;
+                let values = number_within(b"values", 2, MOST_VALUES, line).map_err(
+                    TakeError::Refused,
+                )?;
+                self.stage = LogStage::Valued(values);
             }
             LogStage::Valued(values) => {
-                self.stage = behind_keep(values, line).map_err(TakeError::Refused)?;
+                let keep = number_within(b"keep", 1, MOST_KEPT, line).map_err(TakeError::Refused)?;
+                self.stage = LogStage::Keeping(values, keep as usize);
             }
             LogStage::Keeping(values, keep) => {
                 if line == b"end".as_slice() {

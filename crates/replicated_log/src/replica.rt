@@ -1,27 +1,25 @@
 ghost use Rattle.std.specs.Prelude.{◌≡◌, ◌+◌, ◌*◌, ◌^◌, ◌<◌, ◌≤◌, List, [], ◌∷◌, length, map};
-ghost use Rattle.std.specs.Prelude.{replicate, take, slice_set, slice_index_or, All, MatchResult};
+ghost use Rattle.std.specs.Prelude.{replicate, take, slice_set, slice_index_or, All, IfOk};
 ghost use Rattle.circular_buffer.specs.Buffer.{buffer};
 ghost use Rattle.counter_core.specs.Working.{IsFor, IsAsRoomy};
 ghost use Rattle.replicated_log.specs.EntryLength.{entry_length, owner_at, command_at};
 ghost use Rattle.replicated_log.specs.LogPart.{AreInRange};
 ghost use Rattle.replicated_log.specs.Logs.{agreement_after};
 ghost use Rattle.replicated_log.specs.Rings.{log_seen};
-ghost use Rattle.replicated_log.specs.declared.refusals.LogError.TheVariants.{NoMemory};
 
 use crate::commands::Commands;
 use crate::entries::{Entries, Entry};
 use crate::log_lines::entry_length;
 use crate::log_parts::LogPart;
-use crate::refusals::LogError;
 use circular_buffer::HeapCircularBuffer;
 use consensus_layer::{agree_at, heeded_at, liar_at, slot_length};
 use counter_core::{Heard, HeardRegister, Overlay, Work};
 use layer_laws::CounterNumbers;
-use std::alloc::Global;
+use std::alloc::{AllocError, Global};
 use sync_types::{FaultSet, NodeState, Reg};
 
 /// A replicated log over a counter. The nodes own slots in turn; in each slot all correct nodes put
-/// one and the same entry into their logs, which is what the owner commands where that is correct.
+/// one and the same entry into their logs, which is what the owner commands if that is correct.
 #[derive(Drop)]
 pub struct Replica {
     nodes: u32,
@@ -57,9 +55,8 @@ fn empty_logs(
     alloc: Global,
     nodes: u32,
     keep: usize,
-) -> Result<Vec<HeapCircularBuffer<Entry>>, LogError>
-    ensures { MatchResult result (λ logs. logs.items ≡ replicate nodes (buffer [] keep))
-        (λ error. error ≡ NoMemory) }
+) -> Result<Vec<HeapCircularBuffer<Entry>>, AllocError>
+    ensures { IfOk result (λ logs. logs.items ≡ replicate nodes (buffer [] keep)) }
 {
     let mut logs = Vec::with_capacity(alloc, nodes as usize)?;
     for _ in 0..nodes {
@@ -80,23 +77,25 @@ fn put(logs: &mut [HeapCircularBuffer<Entry>], node: u32, keep: usize, entry: En
 }
 
 impl Replica {
-    ghost use Rattle.std.specs.Prelude.{ℕ, IfOk, IfErr, slice_get, Some};
+    ghost use Rattle.std.specs.Prelude.{ℕ, slice_get, Some};
     ghost use Rattle.replicated_log.specs.LogPart.{IsForNumbers};
     ghost use Rattle.replicated_log.specs.Logs.{log_in, log_layer_over, log_layer_of};
     ghost use Rattle.replicated_log.specs.LogsSeen.{layer_seen, logs_seen};
 
     /// A log over a counter, as it is said of it: for as many nodes, each with a command below the
-    /// values. All logs are empty. `NoMemory` comes where memory was refused, and nothing else is
-    /// an error.
-    pub fn new(alloc: Global, numbers: &CounterNumbers, said: LogPart) -> Result<Replica, LogError>
+    /// values. All logs are empty.
+    pub fn new(
+        alloc: Global,
+        numbers: &CounterNumbers,
+        said: LogPart,
+    ) -> Result<Replica, AllocError>
         requires said { IsForNumbers numbers.now said }
         ensures layer { IfOk result
             (λ replica. layer_seen replica ≡ log_layer_over numbers.now said) }
         ensures kept { IfOk result
             (λ replica. logs_seen replica ≡ replicate numbers.now.nodes []) }
-        ensures error { IfErr result (λ error. error ≡ NoMemory) }
     {
-        numbers.tell();
+        numbers.facts();
         let nodes = numbers.nodes();
         let logs = empty_logs(alloc, nodes, said.keep)?;
         Ok(Replica {
@@ -205,7 +204,7 @@ impl Overlay for Replica {
 
     fn begin(&mut self, _at: u64) {}
 
-    fn heeded(
+    fn relevant_liars(
         &self,
         node: u32,
         output: u64,

@@ -1,15 +1,12 @@
--- The state of a node behind a round, put into its place.
-use Rattle.std.proofs.Common.{◌≡◌, ℕ, List, length, sym, ap, ◌∙◌}
+-- The state of a node after a round, put into its place.
+use Rattle.std.proofs.Common.{◌≡◌, ℕ, length, ap, ◌∙◌}
 use Rattle.std.specs.Prelude.{slice_set}
-use Rattle.std.proofs.lemmas.List.{nil_from_length}
-use Rattle.sync_types.specs.declared.states.Reg.{Reg}
 use Rattle.sync_types.specs.States.{State}
 use Rattle.construction.specs.Plans.{Plan}
 use Rattle.state_codec.specs.Packs.{Pack}
-use Rattle.state_codec.specs.Writing.{number_alone}
 use Rattle.counter_core.specs.Overlays.{Layer}
 use Rattle.adversary_script.specs.Scripts.{Script}
-use Rattle.round_runner.specs.declared.stepping.Room.{Room}
+use Rattle.round_runner.specs.declared.stepping.RoundBuffers.{RoundBuffers}
 use Rattle.round_runner.specs.declared.turns.Round.{Round}
 use Rattle.round_runner.specs.Rooms.{IsReady}
 use Rattle.round_runner.specs.Turns.{IsGathered}
@@ -21,15 +18,8 @@ pub put_behind : (old new : Pack) (v : ℕ) (out state : State)
 put_behind old new v out state put is =
     put ∙ ap (λ (s : State). let p : Pack = record old { next = slice_set old.next v s } in p) is
 
--- a state without registers is its number
-pub alone_is : (out : State) (x depth : ℕ) → x ≡ out.x → length out.registers ≡ depth → depth ≡ 0
-    → number_alone x ≡ out
-alone_is out x depth same long none =
-    ap number_alone same ∙ ap (λ (rs : List Reg). let s : State =
-    record { x = out.x; registers = rs } in s) (sym (nil_from_length out.registers (long ∙ none)))
-
--- the room is still that of the round, where a state was written into it
-pub ready_behind : (plan : Plan) (script : Script) (room : Room) (out : State)
+-- the room is still that of the round, after a state was written into it
+pub ready_behind : (plan : Plan) (script : Script) (room : RoundBuffers) (out : State)
     → IsReady plan script room → length out.registers ≡ script.shape.depth
     → IsReady plan script (record room { out = out })
 ready_behind plan script room out ready deep = record {
@@ -43,7 +33,7 @@ ready_behind plan script room out ready deep = record {
 }
 
 pub gathered_behind : {Kept : Type 0} (round : Round) (layer : Layer Kept) (states : Pack)
-    (room : Room) (out : State) → IsGathered round layer states room
+    (room : RoundBuffers) (out : State) → IsGathered round layer states room
     → length out.registers ≡ round.script.now.shape.depth
     → IsGathered round layer states (record room { out = out })
 gathered_behind round layer states room out gathered deep =

@@ -4,15 +4,14 @@ use Rattle.std.proofs.Common.{◌≡◌, ℕ, zero, suc, ◌+◌, ◌-◌, ◌%�
 use Rattle.std.proofs.Common.{map, Option, Some, None, true, false, sym, ap, ◌∙◌, subst, arith}
 use Rattle.std.specs.Prelude.{is_some, slice_index_or}
 use Rattle.std.proofs.lemmas.Bool.{true≢false}
-use Rattle.std.proofs.Math.Nat.{mod-add-mod, mod-eq_of_lt}
+use Rattle.std.proofs.Math.Nat.{mod-eq_of_lt}
 use Rattle.std.proofs.lemmas.List.{get_or-take}
 use Rattle.std.proofs.lemmas.List.Elements.{All-get_or}
 use Rattle.sync_types.specs.States.{State, register_at, zero_register}
-use Rattle.counting.proofs.Places.{one_fails}
-use Rattle.construction.specs.Plans.{Level, Plan, plan_nodes, plan_modulus, plan_depth}
+use Rattle.construction.specs.Plans.{Level, Plan, plan_nodes, plan_faults, plan_modulus, plan_depth}
 use Rattle.construction.specs.Shown.{shown}
 use Rattle.construction.specs.Steps.{state_of}
-use Rattle.construction.specs.Runs.{is_in, IsConfiguration, Run, IsLocked, IsLockedIn}
+use Rattle.construction.specs.Runs.{is_in, IsBorne, IsConfiguration, Run, IsLocked, IsLockedIn}
 use Rattle.construction.specs.Runs.{configuration}
 use Rattle.plan_numbers.specs.Premises.{IsAccepted}
 use Rattle.plan_numbers.proofs.Accepted.{accepted_sized}
@@ -22,7 +21,6 @@ use Rattle.plan_laws.proofs.Ranges.{state_of-cut, shown_of_cut, range_of_state}
 use Rattle.plan_laws.proofs.RunLaws.{locked_runs_count}
 use Rattle.counter_core.specs.Meanings.{cut}
 use Rattle.counter_core.specs.Overlays.{Layer}
-use Rattle.counter_core.proofs.ListsAndPlaces.{places_of_ids}
 use Rattle.state_codec.specs.Shapes.{IsShape}
 use Rattle.adversary_script.specs.Scripts.{Script, IsScript}
 use Rattle.adversary_script.specs.Eras.{era_of, first_of_era, end_of_era, faulty_of_era}
@@ -30,13 +28,14 @@ use Rattle.layer_laws.specs.Scenes.{Scene}
 use Rattle.round_runner.specs.Known.{lowest_correct, CountsOn}
 use Rattle.round_runner.specs.Locks.{IsFirstLocked}
 use Rattle.round_runner.specs.Runners.{Running, IsFor, IsPlaying, configuration_of}
-use Rattle.round_runner.proofs.Firsts.{in_era, era_within}
-use Rattle.layer_runs.proofs.LowestCorrect.{lowest_among}
-use Rattle.round_runner.proofs.ScenesLock.{borne, known_first}
+use Rattle.machine_runner.proofs.Eras.{of_each_era, counts_on}
+use Rattle.machine_runner.proofs.Firsts.{in_era, era_within}
+use Rattle.layer_laws.proofs.LowestCorrect.{lowest_leads}
+use Rattle.round_runner.proofs.ScenesLock.{known_first}
 use Rattle.round_runner.proofs.ScenesRun.{states_at, cut_at, cut_run, cut_length, cut_configuration}
 use Rattle.round_runner.proofs.ScenesRun.{scenes_run}
 
--- a number that counts does so for any number of rounds
+-- a number below the modulus that counts does so for any number of rounds
 counted : (c : ℕ) (output : ℕ → ℕ) (from end : ℕ)
     → ((t : ℕ) → from ≤ t → t + 1 < end → output (t + 1) ≡ (output t + 1) % c)
     → (i x : ℕ) → from ≤ i → output i < c → i + x < end → output (i + x) ≡ (output i + x) % c
@@ -44,13 +43,7 @@ counted c output from end grows i zero lo below hi =
     let here : i + 0 ≡ i = omega arith in
     let none : output i + 0 ≡ output i = omega arith in
     ap output here ∙ (sym (mod-eq_of_lt below) ∙ ap (λ y. y % c) (sym none))
-counted c output from end grows i (suc x) lo below hi =
-    let step : i + suc x ≡ i + x + 1 = omega arith in
-    let same : output i + x + 1 ≡ output i + suc x = omega arith in
-    ap output step
-    ∙ (grows (i + x) (omega (arith, lo)) (omega (arith, hi))
-    ∙ (ap (λ y. (y + 1) % c) (counted c output from end grows i x lo below (omega (arith, hi)))
-    ∙ (mod-add-mod (output i + x) c 1 ∙ ap (λ y. y % c) same)))
+counted c output from end grows i (suc x) lo below hi = counts_on c output from end grows i x lo hi
 
 -- the cut states of a locked configuration are locked
 cut_locked : (levels : List Level) (faulty : List ℕ) (config : List State)
@@ -90,13 +83,12 @@ module _ {Kept : Type 0} (plan : Plan) (script : Script) (layer : Layer Kept) (b
   abbrev lead : ℕ
   lead = lowest_correct (plan_nodes plan) faulty
 
+  borne : IsBorne plan faulty
+  borne = of_each_era (IsBorne plan) script j among right.borne
+
   leads : (lead < plan_nodes plan) × (is_in faulty lead ≡ false)
-  leads =
-      let quorum = (accepted_sized plan.base plan.levels accepted.levels).quorum in
-      let few = (borne plan script layer began accepted right sound whole j among).few in
-      let some = one_fails (is_in faulty) (plan_nodes plan)
-      (omega (arith, places_of_ids faulty (plan_nodes plan), few, quorum)) in
-      lowest_among (plan_nodes plan) faulty some.0 some.1 some.2
+  leads = lowest_leads (plan_nodes plan) (plan_faults plan) faulty
+      (accepted_sized plan.base plan.levels accepted.levels).quorum borne.few
 
   module _ (w : ℕ) (low : first_of_era script j ≤ w) (high : w < end_of_era script j)
       (locked : IsLocked plan (faulty_of_era script j) (states_at plan script layer began w)) where
@@ -116,7 +108,7 @@ module _ {Kept : Type 0} (plan : Plan) (script : Script) (layer : Layer Kept) (b
 
     stays : StaysLockedFrom plan faulty run (w - first)
     stays = locked_runs_count plan accepted faulty run
-        (borne plan script layer began accepted right sound whole j among) is_run (w - first)
+        borne is_run (w - first)
         (omega (arith, low, high, long))
         (subst (IsLocked plan faulty) (sym (configuration_is w low high))
         (cut_locked plan.levels faulty (states_at plan script layer began w) locked))
@@ -165,7 +157,7 @@ module _ {Kept : Type 0} (plan : Plan) (script : Script) (layer : Layer Kept) (b
         ∙ ap (λ o. (o + (t - at)) % plan_modulus plan)
         (sym (shows_output at lead from (omega (arith, lo, hi)) leads.0 leads.1))))
 
--- what a runner shows counts, where it knows a locked configuration of its era
+-- what a runner shows counts, if it knows a locked configuration of its era
 module _ {O Kept : Type 0} (layer : O → Layer Kept) (kept : O → List Kept) (r : Running O)
     (accepted : IsAccepted r.plan) (right : IsFor r.plan (layer r.overlay) r.script)
     (sound : IsShape r.script.shape) (whole : IsScript r.script)
@@ -197,10 +189,10 @@ module _ {O Kept : Type 0} (layer : O → Layer Kept) (kept : O → List Kept) (
       (lowest_correct (plan_nodes r.plan) (faulty_of_era r.script era))) + (t - r.at))
       % plan_modulus r.plan) (sym (ap (λ (s : Scene Kept). s.states) plays.scene))
 
-  pub counts_on : is_some (slice_index_or r.locks era None) ≡ true → (began : List Kept)
+  pub runner_counts : is_some (slice_index_or r.locks era None) ≡ true → (began : List Kept)
       → IsPlaying layer kept began r
       → CountsOn r.plan r.script (configuration_of layer began r) r.at value
-  counts_on some began plays = counts_from began plays (slice_index_or r.locks era None) some
+  runner_counts some began plays = counts_from began plays (slice_index_or r.locks era None) some
       (known_first layer kept r whole within era (era_within r.script r.at) began plays)
 
 -- the same, by what is kept of the runner
@@ -213,7 +205,7 @@ pub view_counts : {O Kept : Type 0} (layer : O → Layer Kept) (kept : O → Lis
     → CountsOn r.plan r.script (configuration_of layer began r) r.at
     (shown (plan_depth r.plan) (state_of r.states
     (lowest_correct (plan_nodes r.plan) (faulty_of_era r.script (era_of r.script r.at)))))
-view_counts layer kept view r is accepted right sound whole within = counts_on layer kept r
+view_counts layer kept view r is accepted right sound whole within = runner_counts layer kept r
     (subst (λ (r : Running _). IsAccepted r.plan) is accepted)
     (subst (λ (r : Running _). IsFor r.plan (layer r.overlay) r.script) is right)
     (subst (λ (r : Running _). IsShape r.script.shape) is sound)

@@ -2,14 +2,12 @@
 use Rattle.std.proofs.Common.{◌≡◌, ℕ, zero, suc, ◌+◌, ◌-◌, ◌<◌, ◌≤◌, ◌%◌, List, [], length, map}
 use Rattle.std.proofs.Common.{None, unwrap_or, add-one, refl, sym, ap, ◌∙◌, subst, arith}
 use Rattle.std.specs.List.{range_with_len}
-use Rattle.std.proofs.lemmas.List.Elements.{All-get_or}
-use Rattle.std.proofs.lemmas.List.{length-map}
 use Rattle.std.proofs.lemmas.List.FromFn.{length-map-range_with_len, get_or-map-range_with_len}
 use Rattle.sync_types.specs.States.{State, zero_state}
 use Rattle.construction.specs.Plans.{Plan, plan_nodes, plan_bound, plan_modulus}
 use Rattle.construction.specs.Steps.{state_of, step_of}
 use Rattle.construction.specs.Runs.{IsState, IsConfiguration, IsTold, IsTable, Round, IsNext, Run}
-use Rattle.construction.specs.Runs.{configuration, heard_by, IsBorne, AllShow, IsLocked, CountsFrom}
+use Rattle.construction.specs.Runs.{heard_by, IsBorne, AllShow, IsLocked, CountsFrom}
 use Rattle.construction.proofs.Ranges.{step_is_state}
 use Rattle.plan_laws.proofs.PlanCounter.{positive}
 use Rattle.plan_laws.specs.Laws.{EveryPlanSettles, LocksAtBound, LockedRunsCount}
@@ -17,7 +15,7 @@ use Rattle.state_codec.specs.Shapes.{Shape, IsShape, fields_at}
 use Rattle.state_codec.specs.Ranges.{InRange}
 use Rattle.state_codec.proofs.Plans.{shape_of_accepted}
 use Rattle.state_codec.proofs.PlanStates.{in_range_of_node, state_of_node}
-use Rattle.adversary_script.specs.Scripts.{Era, Script, faulty_sets}
+use Rattle.adversary_script.specs.Scripts.{Script}
 use Rattle.adversary_script.specs.Eras.{first_of_era, end_of_era, faulty_of_era, faulty_at}
 use Rattle.adversary_script.specs.Lookup.{hit_at}
 use Rattle.adversary_script.specs.Lies.{AreStates, start_of, lie_of}
@@ -26,22 +24,25 @@ use Rattle.round_runner.specs.Laws.{IsReadFor, EraCountsFrom, EraStaysLocked, Er
 use Rattle.round_runner.specs.Laws.{ErasCount, ErasStayLocked}
 use Rattle.round_runner.specs.Locks.{era_locked}
 use Rattle.round_runner.specs.Played.{lies_at, heard_at, after_round, played_at, era_run}
-use Rattle.round_runner.proofs.FirstLocked.{first_locked_below, passes}
-use Rattle.round_runner.proofs.Firsts.{in_era, none_inside, none_hit, era_some, end_within}
-use Rattle.round_runner.proofs.Hits.{hit_has, put_has}
-use Rattle.round_runner.proofs.Places.{each, placed}
+use Rattle.round_runner.proofs.FirstLocked.{passes}
+use Rattle.machine_runner.proofs.Eras.{era_long, neighbours, of_each_era, same_faulty, to_played}
+use Rattle.machine_runner.proofs.Eras.{from_played, counts_played}
+use Rattle.machine_runner.proofs.FirstPassing.{first_locked_below}
+use Rattle.machine_runner.proofs.Firsts.{in_era, none_inside, none_hit, era_some, end_within}
+use Rattle.machine_runner.proofs.Hits.{hit_has, put_has}
+use Rattle.machine_runner.proofs.Places.{each, placed}
 
 module _ (plan : Plan) (s : Script) (is : IsReadFor plan s) where
-  sound : IsShape s.shape
+  pub sound : IsShape s.shape
   sound = subst IsShape (sym is.right.states) (shape_of_accepted plan is.accepted)
 
-  -- a state of a node's fields is one of the plan's node, and the other way
+  -- a state of a node's fields is one of the plan's node, and conversely
   state_is : (v : ℕ) → v < s.nodes → (x : State) → InRange (fields_at s.shape v) x
       → IsState plan v x
   state_is v lt x range = state_of_node plan is.accepted v (let n = is.right.nodes in omega arith) x
       (subst (λ (shape : Shape). InRange (fields_at shape v) x) is.right.states range)
 
-  in_range : (v : ℕ) → v < s.nodes → (x : State) → IsState plan v x
+  pub in_range : (v : ℕ) → v < s.nodes → (x : State) → IsState plan v x
       → InRange (fields_at s.shape v) x
   in_range v lt x state = subst (λ (shape : Shape). InRange (fields_at shape v) x)
       (sym is.right.states)
@@ -85,12 +86,12 @@ module _ (plan : Plan) (s : Script) (is : IsReadFor plan s) where
             (sym (get_or-map-range_with_len row 0 s.nodes u u [] node (omega arith))) (told u node);
       }
 
-  played_is : (t : ℕ) → IsConfiguration plan (played_at plan s t)
+  pub played_is : (t : ℕ) → IsConfiguration plan (played_at plan s t)
   played_is zero = configuration_of (start_of s)
       (λ v lt. state_is v lt (start_of s v) (starts_in_range s is.whole sound v))
   played_is (suc t) = steps_are t (played_at plan s t)
 
-  -- where nobody is put into a state, the new state of each node is its step
+  -- if nobody is put into a state, the new state of each node is its step
   stepped : (t v n : ℕ) (faulty : List ℕ) → s.nodes ≡ n → faulty_at s t ≡ faulty → v < n
       → hit_at s (t + 1) v ≡ None
       → state_of (played_at plan s (suc t)) v
@@ -106,9 +107,8 @@ module _ (plan : Plan) (s : Script) (is : IsReadFor plan s) where
       ∙ ap (λ m. step_of plan v (heard_by m faulty config (lies_at s t config) v)) nodes
 
   module _ (j : ℕ) (le : j ≤ length s.eras) where
-    same_faulty : (t : ℕ) → first_of_era s j ≤ t → t < end_of_era s j
-        → faulty_at s t ≡ faulty_of_era s j
-    same_faulty t low high = ap (faulty_of_era s) (in_era s is.whole.formed.rising j t le low high)
+    abbrev at : ℕ → List State
+    at = played_at plan s
 
     pub round_in : (t : ℕ) → first_of_era s j ≤ t → t + 1 < end_of_era s j
         → Round plan (faulty_of_era s j) (played_at plan s t) (lies_at s t (played_at plan s t))
@@ -118,97 +118,47 @@ module _ (plan : Plan) (s : Script) (is : IsReadFor plan s) where
         rw (add-one t) (record {
           table = lies_are t (played_at plan s t) (played_is t);
           steps = λ v lt correct. stepped t v (plan_nodes plan) (faulty_of_era s j) is.right.nodes
-              (same_faulty t low (omega arith)) lt (none_hit s (t + 1) v none);
+              (same_faulty s is.whole j le t low (omega arith)) lt (none_hit s (t + 1) v none);
         })
-
-    length_is : length (era_run plan s j) ≡ end_of_era s j - first_of_era s j
-    length_is = length-map-range_with_len (λ i. played_at plan s (first_of_era s j + i)) 0
-        (end_of_era s j - first_of_era s j)
-
-    configuration_is : (i : ℕ) → i < end_of_era s j - first_of_era s j
-        → configuration (era_run plan s j) i ≡ played_at plan s (first_of_era s j + i)
-    configuration_is i lt = get_or-map-range_with_len
-        (λ i. played_at plan s (first_of_era s j + i)) 0
-        (end_of_era s j - first_of_era s j) i i [] lt (omega arith)
 
     pub run_of_era : Run plan (faulty_of_era s j) (era_run plan s j)
     run_of_era = record {
-      some = let some = era_some s is.whole j le in omega (arith, some, length_is);
+      some = let some = era_some s is.whole j le in omega (arith, some, era_long s at j);
       configurations = each (IsConfiguration plan) (λ i. played_at plan s (first_of_era s j + i))
           (end_of_era s j - first_of_era s j) (λ i lt. played_is (first_of_era s j + i));
-      rounds = λ i lt.
-          let here = configuration_is i (omega (arith, length_is)) in
-          let there = configuration_is (i + 1) (omega (arith, length_is)) in
-          let next : first_of_era s j + i + 1 ≡ first_of_era s j + (i + 1) = omega arith in
-          rw (here, there) (subst (λ t. IsNext plan (faulty_of_era s j)
-          (played_at plan s (first_of_era s j + i)) (played_at plan s t)) next
-          (record {
-            lies = lies_at s (first_of_era s j + i)
-                (played_at plan s (first_of_era s j + i));
-            round =
-                round_in (first_of_era s j + i) (omega arith) (omega (arith, length_is));
-          }));
+      rounds = neighbours s at j (λ t. IsNext plan (faulty_of_era s j)) []
+          (λ t low high. record { lies = lies_at s t (at t); round = round_in t low high });
     }
 
     borne_in : IsBorne plan (faulty_of_era s j)
-    borne_in = All-get_or (IsBorne plan) (faulty_sets s) j []
-        (omega (arith, le, length-map s.eras (λ (era : Era). era.faulty))) is.right.borne
+    borne_in = of_each_era (IsBorne plan) s j le is.right.borne
 
-    -- a fact on a configuration of the run, as one on the configuration that is played, and the
-    -- other way
-    module _ (P : List ℕ → List State → Type 0) (t i : ℕ) (at : first_of_era s j + i ≡ t)
-        (before : t < end_of_era s j) where
-      same_configuration : configuration (era_run plan s j) i ≡ played_at plan s t
-      same_configuration = configuration_is i (omega (arith, at, before)) ∙ ap (played_at plan s) at
-
-      to_played : P (faulty_of_era s j) (configuration (era_run plan s j) i)
-          → P (faulty_at s t) (played_at plan s t)
-      to_played h = subst (λ faulty. P faulty (played_at plan s t))
-          (sym (same_faulty t (omega (arith, at)) before))
-          (subst (λ (config : List State). P (faulty_of_era s j) config) same_configuration h)
-
-      from_played : P (faulty_at s t) (played_at plan s t)
-          → P (faulty_of_era s j) (configuration (era_run plan s j) i)
-      from_played h = subst (λ (config : List State). P (faulty_of_era s j) config)
-          (sym same_configuration)
-          (subst (λ faulty. P faulty (played_at plan s t))
-          (same_faulty t (omega (arith, at)) before) h)
-
-    -- outputs of the run that count are those that are played
     counts_from : (from : ℕ) → CountsFrom plan (faulty_of_era s j) (era_run plan s j) from
         → EraCountsFrom plan s j (first_of_era s j + from)
-    counts_from from counts = record {
-      output = λ t. counts.output (t - first_of_era s j);
-      shows = λ t lo hi. to_played (λ faulty config.
-          AllShow plan faulty config (counts.output (t - first_of_era s j))) t
-          (t - first_of_era s j) (omega arith) hi
-          (counts.shows (t - first_of_era s j) (omega arith) (omega (arith, length_is)));
-      grows = λ t lo hi.
-          let next : t + 1 - first_of_era s j ≡ t - first_of_era s j + 1 = omega arith in
-          subst (λ i. counts.output i ≡ (counts.output (t - first_of_era s j) + 1) % plan_modulus
-          plan) (sym next) (counts.grows (t - first_of_era s j) (omega arith)
-          (omega (arith, length_is)));
-    }
+    counts_from from counts = counts_played s is.whole j le at (AllShow plan) (plan_modulus plan)
+        from counts.output counts.shows counts.grows
 
     era_locks : LocksAtBound → first_of_era s j + plan_bound plan < end_of_era s j
         → IsLocked plan (faulty_at s (first_of_era s j + plan_bound plan))
         (played_at plan s (first_of_era s j + plan_bound plan))
-    era_locks law reaches = to_played (IsLocked plan) (first_of_era s j + plan_bound plan)
-        (plan_bound plan) refl reaches
+    era_locks law reaches = to_played s is.whole j le at (IsLocked plan)
+        (first_of_era s j + plan_bound plan) (plan_bound plan) refl reaches
         (law plan is.accepted (faulty_of_era s j) (era_run plan s j) borne_in run_of_era
-        (omega (arith, length_is)))
+        (omega (arith, era_long s at j)))
 
     era_stays : LockedRunsCount → (t : ℕ) → first_of_era s j ≤ t → t < end_of_era s j
         → IsLocked plan (faulty_at s t) (played_at plan s t) → EraStaysLocked plan s j t
     era_stays law t low high locked =
         let i : ℕ = t - first_of_era s j in
+        let long = era_long s at j in
         let back : first_of_era s j + i ≡ t = omega arith in
         let stays = law plan is.accepted (faulty_of_era s j)
-        (era_run plan s j) borne_in run_of_era i (omega (arith, length_is))
-        (from_played (IsLocked plan) t i back high locked) in
+        (era_run plan s j) borne_in run_of_era i (omega (arith, long))
+        (from_played s is.whole j le at (IsLocked plan) t i back high locked) in
         record {
-          locked = λ u lo hi. to_played (IsLocked plan) u (u - first_of_era s j) (omega arith) hi
-              (stays.locked (u - first_of_era s j) (omega arith) (omega (arith, length_is)));
+          locked = λ u lo hi. to_played s is.whole j le at (IsLocked plan) u
+              (u - first_of_era s j) (omega arith) hi
+              (stays.locked (u - first_of_era s j) (omega arith) (omega (arith, long)));
           counts = subst (EraCountsFrom plan s j) back (counts_from i stays.counts);
         }
 

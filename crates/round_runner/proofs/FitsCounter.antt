@@ -5,7 +5,7 @@ use Rattle.plan_numbers.specs.Premises.{IsAccepted}
 use Rattle.plan_numbers.proofs.Accepted.{accepted_sized}
 use Rattle.counter_core.specs.Overlays.{Layer}
 use Rattle.adversary_script.specs.Scripts.{IsScript}
-use Rattle.layer_runs.specs.Positions.{IsFitting}
+use Rattle.layer_laws.specs.Positions.{IsFitting}
 use Rattle.round_runner.specs.Runners.{Running, IsFor, position_of}
 
 pub is_fitting : {O Kept : Type 0} (layer : O → Layer Kept) (kept : O → List Kept) (r : Running O)

@@ -1,4 +1,4 @@
--- A plan's shape with a layer's registers behind fits the plan's counter and the layer.
+-- A plan's shape with a layer's registers after its own fits the plan's counter and the layer.
 use Rattle.std.proofs.Common.{◌≡◌, ℕ, ◌+◌, ◌-◌, ◌<◌, ◌≤◌, inl, inr, not, List, ◌++◌, length, map}
 use Rattle.std.proofs.Common.{replicate, take, get_or, refl, sym, ap, ap₂, ◌∙◌, subst, arith}
 use Rattle.std.proofs.Common.{length-append}
@@ -28,7 +28,7 @@ use Rattle.state_codec.proofs.Lows.{depth_at, fields_limited}
 use Rattle.state_codec.proofs.Plans.{shape_of_accepted, length-moduli_of, nodes_of_shape}
 use Rattle.state_codec.proofs.PlanStates.{in_range_of_node, state_of_node}
 use Rattle.counter_core.specs.Meanings.{cut}
-use Rattle.counter_core.specs.Overlays.{Layer, StandsOver, HasValues, AreBelow}
+use Rattle.counter_core.specs.Overlays.{Layer, LayerFits, HasValues, AreBelow}
 use Rattle.counter_core.specs.NoLayers.{no_layer}
 use Rattle.adversary_script.specs.Scripts.{Script}
 use Rattle.adversary_script.specs.ScriptPart as part
@@ -48,7 +48,7 @@ below_finite : (modulus : ℕ) (r : Reg) → 1 ≤ modulus → IfSome r.a (λ a.
 below_finite modulus r two is = subst (λ b. IsRegister (not b) modulus r)
     (sym (ne_eqb modulus 0 (λ e. absurd (omega arith)))) is
 
--- the fields of the nodes, those of the plan with the layer's registers behind
+-- the fields of the nodes, those of the plan with the layer's registers after them
 module _ {Kept : Type 0} (plan : Plan) (layer : Layer Kept) (accepted : IsAccepted plan)
     (sound : IsShape (shape_with plan layer.values layer.extra)) where
   abbrev depth : ℕ
@@ -122,7 +122,7 @@ module _ {Kept : Type 0} (plan : Plan) (layer : Layer Kept) (accepted : IsAccept
               (omega arith) s within.values;
         }
 
-    values : StandsOver layer (plan_meaning plan) → (s : State) → InRange (fields_at shape v) s
+    values : LayerFits layer (plan_meaning plan) → (s : State) → InRange (fields_at shape v) s
         → HasValues layer s
     values over s range = λ i lt.
         let here : InRange (record own { moduli = own.moduli ++ behind }) s =
@@ -169,7 +169,7 @@ module _ {Kept : Type 0} (plan : Plan) (layer : Layer Kept) (accepted : IsAccept
         (fitted_in_range own (cut depth s)
         (fields_limited (shape_of plan) v (shape_of_accepted plan accepted))))
 
-    -- a state of the plan's node with registers of the layer behind is one of the node
+    -- a state of the plan's node with registers of the layer after its own is one of the node
     module _ (s : State) (registers : List Reg) (is : IsState plan v s)
         (extra : length registers ≡ layer.extra) (below : AreBelow layer.values registers) where
       behind_is : (i : ℕ) → i < depth + layer.extra → depth ≤ i
@@ -225,7 +225,7 @@ module _ {Kept : Type 0} (plan : Plan) (layer : Layer Kept) (accepted : IsAccept
 
 pub layer_fits : {Kept : Type 0} (plan : Plan) (layer : Layer Kept) (shape : Shape)
     → IsAccepted plan → shape ≡ shape_with plan layer.values layer.extra → IsShape shape
-    → StandsOver layer (plan_meaning plan) → Fits shape (plan_meaning plan) (IsInRange plan) layer
+    → LayerFits layer (plan_meaning plan) → Fits shape (plan_meaning plan) (IsInRange plan) layer
 layer_fits plan layer states accepted is sound over =
     let whole : IsShape (shape_with plan layer.values layer.extra) = subst IsShape is sound in
     subst (λ (s : Shape). Fits s (plan_meaning plan) (IsInRange plan) layer) (sym is) (record {
@@ -237,7 +237,7 @@ layer_fits plan layer states accepted is sound over =
           stepped plan layer accepted whole v node heard registers extra below;
     })
 
--- the shape of a plan is that with no registers behind
+-- the shape of a plan is that with no further registers
 no_further : (plan : Plan) (values count : ℕ) → count ≡ 0
     → shape_of plan ≡ shape_with plan values count
 no_further plan values count none =

@@ -12,14 +12,14 @@ use Rattle.adversary_script.specs.Scripts.{Script}
 use Rattle.adversary_script.specs.Eras.{faulty_at}
 use Rattle.adversary_script.specs.Lies.{lie_of}
 use Rattle.round_runner.specs.Played.{lies_at, heard_at}
-use Rattle.round_runner.proofs.Heard.{one_at}
+use Rattle.machine_runner.proofs.Heard.{one_at}
 
 module _ (script : Script) (t v : ℕ) (config : List State) (node : v < script.nodes) (u : ℕ)
     (lt : u < script.nodes) (told : State) where
   abbrev bad : List ℕ
   bad = faulty_at script t
 
-  -- what is told is heard, where it is what a faulty node tells, and the state of a correct one
+  -- what is told is heard, if it is what a faulty node tells, and the state of a correct one
   pub heard_place : (is_in bad u ≡ true
       → told ≡ cond (u == v) (state_of config u) (lie_of script t u v config))
       → (is_in bad u ≡ false → told ≡ state_of config u)

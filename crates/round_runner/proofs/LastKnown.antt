@@ -14,10 +14,12 @@ use Rattle.round_runner.specs.Known.{KnowsLocks, known_from}
 use Rattle.round_runner.specs.Laws.{IsUpTo}
 use Rattle.round_runner.specs.Locks.{first_locked, era_locked, IsFirstLocked}
 use Rattle.round_runner.specs.Runners.{Running, IsPlaying, configuration_of}
-use Rattle.round_runner.specs.Scenes.{scene_at}
-use Rattle.round_runner.proofs.FirstLocked.{first_is_locked, first_locked_below, passes}
-use Rattle.round_runner.proofs.Firsts.{in_era, era_some, end_within}
-use Rattle.round_runner.proofs.LocksKnown.{known_at_end, still_last}
+use Rattle.layer_laws.specs.PlayedScenes.{scene_at}
+use Rattle.machine_runner.proofs.Eras.{still_last}
+use Rattle.machine_runner.proofs.FirstPassing.{first_locked_below}
+use Rattle.machine_runner.proofs.Firsts.{in_era, era_some, end_within}
+use Rattle.round_runner.proofs.FirstLocked.{first_is_locked, passes}
+use Rattle.round_runner.proofs.LocksKnown.{known_at_end}
 use Rattle.round_runner.proofs.ScenesLock.{known_is, known_first}
 
 -- where it stops
@@ -56,7 +58,7 @@ module _ {O Kept : Type 0} (layer : O → Layer Kept) (kept : O → List Kept) (
   pub begun_at : first_of_era r.script last ≤ first
   begun_at = begun_by (found r.script.rounds) (found_is r.script.rounds (omega arith))
 
-  -- where all is known, that configuration was reached
+  -- if all is known, that configuration was reached
   reached : (lock : Option ℕ) → IsFirstLocked r.plan r.script (configuration_of layer began r) last
       r.at lock → slice_index_or r.locks last None ≡ lock → KnowsLocks r
       → unwrap_or lock r.script.rounds ≤ r.at
@@ -75,7 +77,7 @@ module _ {O Kept : Type 0} (layer : O → Layer Kept) (kept : O → List Kept) (
       (reached lock (known_first layer kept r whole within last (omega arith) began plays) refl
       knows)
 
-  -- and where it is not, in the last era, it lies ahead
+  -- and if it is not, in the last era, it lies ahead
   ahead : (lock : Option ℕ) → IsFirstLocked r.plan r.script (configuration_of layer began r) last
       r.script.rounds lock → first_of_era r.script last ≤ r.at → (KnowsLocks r → ⊥)
       → r.at < unwrap_or lock r.script.rounds

@@ -1,4 +1,4 @@
--- A node's step: the counter's, and behind it that of a layer that hears what the node hears.
+-- A node's step: the counter's, and after it that of a layer that hears what the node hears.
 use Rattle.std.proofs.Common.{◌≡◌, ℕ, ◌+◌, ◌<◌, List, ◌++◌, length, drop, All, sym, ap, ◌∙◌, subst}
 use Rattle.std.proofs.Common.{arith}
 use Rattle.std.proofs.lemmas.List.{length-append, length-drop}
@@ -10,30 +10,80 @@ use Rattle.construction.specs.Steps.{state_of, step_of}
 use Rattle.plan_numbers.specs.Premises.{IsAccepted}
 use Rattle.plan_laws.specs.PlanMeaning.{plan_meaning, IsInRange}
 use Rattle.plan_laws.proofs.PlanCounter.{plan_sizes}
-use Rattle.state_codec.specs.Shapes.{Shape, IsShape, fields_at}
+use Rattle.state_codec.specs.Shapes.{IsShape, fields_at}
 use Rattle.state_codec.specs.Ranges.{InRange}
 use Rattle.counter_core.specs.Meanings.{written}
-use Rattle.counter_core.specs.Overlays.{Layer, IsDeaf, StandsOver, HasRegisters, HasValues, CanStep}
+use Rattle.counter_core.specs.Overlays.{Layer, IsDeaf, LayerFits, HasRegisters, HasValues, CanStep}
 use Rattle.counter_core.specs.Overlays.{MayHear, AreNew, KeepsRange, after, layered}
 use Rattle.adversary_script.specs.Scripts.{Script, IsScript}
 use Rattle.adversary_script.specs.Lies.{AreStates}
+use Rattle.machine_runner.proofs.Keeping.{range_of}
+use Rattle.round_runner.specs.declared.stepping.RoundBuffers.{RoundBuffers}
+use Rattle.round_runner.specs.declared.turns.NodeStep.{NodeStep}
 use Rattle.round_runner.specs.Fits.{Fits}
 use Rattle.round_runner.specs.Hearing.{AreOfNodes}
 use Rattle.round_runner.specs.Played.{heard_at}
-use Rattle.round_runner.specs.Scenes.{layer_step, new_state}
-use Rattle.round_runner.proofs.HeardAt.{heard_long, heard_counts, heard_deep, heard_values}
-use Rattle.round_runner.proofs.Layered.{layered_written}
+use Rattle.round_runner.specs.Turns.{IsRound, IsSet}
+use Rattle.layer_laws.specs.PlayedScenes.{layer_step, new_state}
+use Rattle.machine_runner.proofs.HeardAt.{heard_long}
+use Rattle.round_runner.proofs.HeardAt.{heard_counts, heard_deep, heard_values}
+use Rattle.layer_laws.proofs.Layered.{layered_written}
 use Rattle.round_runner.proofs.Layering.{same_step, shown_itself}
 use Rattle.round_runner.proofs.Liars.{deep_lies}
-use Rattle.round_runner.proofs.Places.{all_places}
+use Rattle.machine_runner.proofs.Places.{all_places}
+
+-- a node of a script steps from a configuration of states in range, with a layer above
+pub record CanTurn {Kept : Type 0} (plan : Plan) (script : Script) (layer : Layer Kept) (v : ℕ)
+    (config : List State) : Type 0 where
+  pub accepted : IsAccepted plan
+  pub whole : IsScript script
+  pub sound : IsShape script.shape
+  pub keeps : KeepsRange layer
+  pub fits : Fits script.shape (plan_meaning plan) (IsInRange plan) layer
+  pub over : LayerFits layer (plan_meaning plan)
+  pub deaf : IsDeaf layer
+  pub nodes : script.nodes ≡ plan_nodes plan
+  pub node : v < script.nodes
+  pub range : AreStates script.nodes script.shape config
+
+-- so does the node of a step, by what is set for it
+pub can_turn : {Kept : Type 0} (layer : Layer Kept) (turn : NodeStep) (room : RoundBuffers)
+    → IsRound turn.round.now → IsSet turn.round.now layer turn.states.now room → KeepsRange layer
+    → IsDeaf layer → IsShape turn.states.now.shape
+    → ((u : ℕ) → u < length turn.states.now.current
+    → InRange (fields_at turn.states.now.shape u) (state_of turn.states.now.current u))
+    → CanTurn turn.round.now.tower.now turn.round.now.script.now layer turn.v
+    turn.states.now.current
+can_turn layer turn room is set keeps deaf sound range =
+    let script : Script = turn.round.now.script.now in
+    record {
+      accepted = is.accepted;
+      whole = is.script;
+      sound = subst IsShape set.shape sound;
+      keeps = keeps;
+      fits = set.fits;
+      over = set.over;
+      deaf = deaf;
+      nodes = is.nodes;
+      node = turn.node;
+      range = range_of turn.states.now.shape script.shape script.nodes turn.states.now.current
+          set.shape set.size range;
+    }
 
 module _ {Kept : Type 0} (plan : Plan) (script : Script) (layer : Layer Kept) (kept : List Kept)
-    (t v : ℕ) (config : List State) (accepted : IsAccepted plan) (whole : IsScript script)
-    (sound : IsShape script.shape) (keeps : KeepsRange layer)
-    (fits : Fits script.shape (plan_meaning plan) (IsInRange plan) layer)
-    (over : StandsOver layer (plan_meaning plan)) (deaf : IsDeaf layer)
-    (nodes : script.nodes ≡ plan_nodes plan) (node : v < script.nodes)
-    (range : AreStates script.nodes script.shape config) where
+    (t v : ℕ) (config : List State) (can : CanTurn plan script layer v config) where
+  abbrev fits : Fits script.shape (plan_meaning plan) (IsInRange plan) layer
+  fits = can.fits
+
+  abbrev over : LayerFits layer (plan_meaning plan)
+  over = can.over
+
+  nodes : script.nodes ≡ plan_nodes plan
+  nodes = can.nodes
+
+  node : v < script.nodes
+  node = can.node
+
   abbrev heard : List State
   heard = heard_at script t config v
 
@@ -41,10 +91,10 @@ module _ {Kept : Type 0} (plan : Plan) (script : Script) (layer : Layer Kept) (k
   output = (plan_meaning plan).shows v (state_of heard v)
 
   counts : All (IsInRange plan) heard
-  counts = heard_counts script t config v whole sound node range (plan_meaning plan)
+  counts = heard_counts script t config v can.whole can.sound node can.range (plan_meaning plan)
       (IsInRange plan) layer fits (sym nodes)
 
-  -- what the layer may hear, where it has registers
+  -- what the layer may hear, if it has registers
   pub may_hear : 0 < layer.extra → MayHear layer v output heard
   may_hear some =
       let same = over some in
@@ -52,7 +102,7 @@ module _ {Kept : Type 0} (plan : Plan) (script : Script) (layer : Layer Kept) (k
       let modulus = same.modulus in
       let depth = same.depth in
       let long = heard_long script t config v in
-      let below = (plan_sizes plan accepted).shown v (state_of heard v)
+      let below = (plan_sizes plan can.accepted).shown v (state_of heard v)
       (omega (arith, node, nodes))
       (counts v (zero_state 0) (omega (arith, node, long))) in
       record {
@@ -61,14 +111,15 @@ module _ {Kept : Type 0} (plan : Plan) (script : Script) (layer : Layer Kept) (k
         size = long ∙ nodes ∙ sym numbers;
         deep = All-weaker (λ (s : State). length s.registers ≡ plan_depth plan + layer.extra)
             (HasRegisters layer) (λ s deep. omega (arith, deep, depth)) heard
-            (heard_deep script t config v whole sound node range (plan_meaning plan)
+            (heard_deep script t config v can.whole can.sound node can.range (plan_meaning plan)
             (IsInRange plan) layer fits (sym nodes));
-        range = heard_values script t config v whole sound node range (plan_meaning plan)
+        range = heard_values script t config v can.whole can.sound node can.range
+            (plan_meaning plan)
             (IsInRange plan) layer fits (sym nodes);
       }
 
   pub new_are : AreNew layer (layer_step (plan_meaning plan) layer kept v heard).registers
-  new_are = keeps v output _ heard may_hear
+  new_are = can.keeps v output _ heard may_hear
 
   pub new_in_range : InRange (fields_at script.shape v)
       (new_state (plan_meaning plan) layer kept v heard)
@@ -125,7 +176,8 @@ module _ {Kept : Type 0} (plan : Plan) (script : Script) (layer : Layer Kept) (k
     step_is_that enough =
         ap (after layer kept v shown) same
         ∙ ap (λ (o : ℕ). after layer kept v o items) shows
-        ∙ same_step layer deaf kept v ((plan_meaning plan).shows v (state_of config v)) items heard
+        ∙ same_step layer can.deaf kept v ((plan_meaning plan).shows v (state_of config v)) items
+        heard
         enough
         ∙ ap (λ (o : ℕ). after layer kept v o heard) (sym shows ∙ shows_it)
 
@@ -137,7 +189,7 @@ module _ {Kept : Type 0} (plan : Plan) (script : Script) (layer : Layer Kept) (k
   counted_room before counted room is =
       let next : List Reg = (step_of plan v heard).registers in
       let deep : length next ≡ plan_depth plan =
-      (plan_sizes plan accepted).deep v heard (omega (arith, node, nodes))
+      (plan_sizes plan can.accepted).deep v heard (omega (arith, node, nodes))
       (heard_long script t config v ∙ nodes) in
       let fit = fits.depth in
       let both = length-append next (drop (plan_depth plan) before.registers) in
@@ -146,7 +198,7 @@ module _ {Kept : Type 0} (plan : Plan) (script : Script) (layer : Layer Kept) (k
       ≡ script.shape.depth = omega (arith, both, rest, deep, fit, room) in
       ap (λ (s : State). length s.registers) is ∙ size
 
-  -- written behind the counter's step it makes the new state
+  -- written after the counter's step it makes the new state
   pub out_is : (before counted out : State)
       → length before.registers ≡ script.shape.depth
       → counted ≡ written (plan_depth plan) (step_of plan v heard) before
@@ -156,15 +208,6 @@ module _ {Kept : Type 0} (plan : Plan) (script : Script) (layer : Layer Kept) (k
       end
       ∙ ap (layered layer (layer_step (plan_meaning plan) layer kept v heard).registers) is
       ∙ layered_written (plan_depth plan) layer (step_of plan v heard) before _
-      ((plan_sizes plan accepted).deep v heard (omega (arith, node, nodes))
+      ((plan_sizes plan can.accepted).deep v heard (omega (arith, node, nodes))
       (heard_long script t config v ∙ nodes)) new_are.size (room ∙ fits.depth)
       (λ some. (over some).depth)
-
--- the states of a configuration are those of the script's shape
-pub range_of : (shape own : Shape) (nodes : ℕ) (config : List State) → shape ≡ own
-    → length config ≡ nodes
-    → ((u : ℕ) → u < length config → InRange (fields_at shape u) (state_of config u))
-    → AreStates nodes own config
-range_of shape own nodes config same size each = λ u lt.
-    subst (λ (s : Shape). InRange (fields_at s u) (state_of config u)) same
-    (each u (omega (arith, lt, size)))

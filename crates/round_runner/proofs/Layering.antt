@@ -1,5 +1,5 @@
--- A layer's step hangs on what is laid for it where it has registers; where it has none it does not
--- hang on what is heard.
+-- A layer's step depends on what is laid for it if it has registers; if it has none, it does not
+-- depend on what is heard.
 use Rattle.std.proofs.Common.{◌≡◌, ℕ, ◌<◌, inl, inr, List, length, set, ◌∙◌}
 use Rattle.std.proofs.lemmas.List.{length-set}
 use Rattle.std.proofs.lemmas.List.Elements.{All-set}
@@ -9,12 +9,13 @@ use Rattle.counter_core.specs.Overlays.{Layer, IsDeaf, after}
 use Rattle.adversary_script.specs.Scripts.{Script}
 use Rattle.adversary_script.specs.Eras.{faulty_at}
 use Rattle.adversary_script.specs.Lies.{lie_of}
-use Rattle.round_runner.specs.Hearing.{HasRoom, IsOfSome}
+use Rattle.machine_runner.specs.Hearing.{HasRoom}
+use Rattle.round_runner.specs.Hearing.{IsOfSome}
 use Rattle.round_runner.specs.Laying.{IsLaid}
 use Rattle.round_runner.specs.Played.{heard_at}
-use Rattle.round_runner.proofs.Heard.{heard_own}
-use Rattle.round_runner.proofs.Layered.{none_or_some}
-use Rattle.round_runner.proofs.Places.{set_has}
+use Rattle.machine_runner.proofs.Heard.{heard_own}
+use Rattle.layer_laws.proofs.Layered.{none_or_some}
+use Rattle.machine_runner.proofs.Places.{set_has}
 
 -- a true state that is laid leaves what is laid
 pub state_laid : (script : Script) (t v : ℕ) (config heard : List State) (out : State)

@@ -1,5 +1,5 @@
--- Where the lies that a layer heeds are laid beside the true states, its step is that by all that
--- the node hears.
+-- If the lies that a layer heeds are laid beside the true states, its step is that by all that the
+-- node hears.
 use Rattle.std.proofs.Common.{◌≡◌, ℕ, ◌<◌, ◌≤◌, inl, inr, true, false, List, length, refl, sym, ap}
 use Rattle.std.proofs.Common.{◌∙◌, subst, arith}
 use Rattle.std.specs.Prelude.{slice_index}
@@ -9,21 +9,22 @@ use Rattle.sync_types.specs.States.{State, zero_state}
 use Rattle.construction.specs.Steps.{state_of}
 use Rattle.plan_laws.specs.PlanMeaning.{plan_meaning}
 use Rattle.state_codec.specs.Shapes.{IsShape}
-use Rattle.counter_core.specs.Heeding.{HearsTruth, HeedsOnly}
+use Rattle.counter_core.specs.Heeding.{HearsTruth, DependsOnlyOn}
 use Rattle.counter_core.specs.Overlays.{Layer, after}
 use Rattle.adversary_script.specs.Scripts.{Script}
 use Rattle.adversary_script.specs.Eras.{faulty_at}
 use Rattle.adversary_script.specs.Lies.{AreStates}
 use Rattle.round_runner.specs.declared.turns.Round.{Round}
-use Rattle.round_runner.specs.Hearing.{heard_from, IsOfSome}
+use Rattle.machine_runner.specs.Hearing.{heard_from}
+use Rattle.round_runner.specs.Hearing.{IsOfSome}
 use Rattle.round_runner.specs.Laying.{IsLaid, IsLaidFor, IsToldIn, IsSameOrTold, IsEnough}
 use Rattle.round_runner.specs.Played.{heard_at}
 use Rattle.round_runner.specs.Turns.{IsRound}
-use Rattle.round_runner.proofs.Heard.{is_among}
-use Rattle.round_runner.proofs.HeardAt.{heard_long, heard_range}
+use Rattle.machine_runner.proofs.Heard.{is_among}
+use Rattle.machine_runner.proofs.HeardAt.{heard_long, heard_range}
 use Rattle.round_runner.proofs.HeardPlaces.{heard_place}
 use Rattle.round_runner.proofs.Layering.{shown_itself}
-use Rattle.round_runner.proofs.Places.{all_places}
+use Rattle.machine_runner.proofs.Places.{all_places}
 
 module _ (round : Round) (v : ℕ) (config : List State) (is : IsRound round)
     (node : v < round.script.now.nodes) where
@@ -111,7 +112,7 @@ module _ (round : Round) (v : ℕ) (config : List State) (is : IsRound round)
             | inr at ↦ subst (IsOfSome script) (sym (told_at u (state_of heard u) at)) (record {
               node = u;
               inside = inside;
-              range = heard_range script round.t config v is.script sound node range u inside;
+              range = heard_range script round.t config v node range is.script sound u inside;
             })
           ]
 
@@ -128,7 +129,7 @@ module _ (round : Round) (v : ℕ) (config : List State) (is : IsRound round)
 
       pub enough : {Kept : Type 0} (layer : Layer Kept) (kept : List Kept)
           → IsShape script.shape → AreStates script.nodes script.shape config
-          → HeedsOnly (after layer kept v
+          → DependsOnlyOn (after layer kept v
           ((plan_meaning round.tower.now).shows v (state_of config v))) bad v before from to
           → IsEnough round layer kept v config heard
       enough layer kept sound range heeds = record {

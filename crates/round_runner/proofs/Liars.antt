@@ -10,7 +10,7 @@ use Rattle.state_codec.specs.Ranges.{InRange}
 use Rattle.adversary_script.specs.Scripts.{Script}
 use Rattle.adversary_script.proofs.LiesInRange.{depth_of_node}
 use Rattle.round_runner.specs.Hearing.{IsOfSome, AreOfNodes}
-use Rattle.round_runner.proofs.Places.{all_places}
+use Rattle.machine_runner.proofs.Places.{all_places}
 
 module _ (script : Script) (lies : List State) (are : AreOfNodes script lies) where
   -- each has the depth of the shape

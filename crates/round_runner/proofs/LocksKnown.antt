@@ -1,53 +1,19 @@
 -- What a runner that knows the first locked configuration of each era knows at the end.
-use Rattle.std.proofs.Common.{◌≡◌, ℕ, zero, suc, ◌+◌, ◌-◌, ◌<◌, ◌≤◌, inl, inr, Bool, true, false}
-use Rattle.std.proofs.Common.{cond, List, length, Option, Some, None, refl, sym, ap, ◌∙◌, subst}
-use Rattle.std.proofs.Common.{arith}
+use Rattle.std.proofs.Common.{◌≡◌, ℕ, ◌+◌, ◌-◌, ◌<◌, ◌≤◌, inl, inr, Bool, true, false, cond, List}
+use Rattle.std.proofs.Common.{length, None, refl, sym, ap, ◌∙◌, subst, arith}
 use Rattle.std.specs.Prelude.{is_some, slice_index_or}
-use Rattle.std.proofs.lemmas.Bool.{true≢false, cases_eq, le-ltb}
+use Rattle.std.proofs.lemmas.Bool.{true≢false, cases_eq}
 use Rattle.counter_core.specs.Overlays.{Layer}
-use Rattle.adversary_script.specs.Scripts.{Script, IsScript}
-use Rattle.adversary_script.specs.Eras.{era_of, first_of_era, end_of_era}
+use Rattle.adversary_script.specs.Scripts.{IsScript}
+use Rattle.adversary_script.specs.Eras.{era_of}
 use Rattle.round_runner.specs.Known.{KnowsLocks}
-use Rattle.round_runner.specs.Locks.{first_of, first_locked, era_locked, IsFirstLocked}
+use Rattle.round_runner.specs.Locks.{is_locked, first_locked, era_locked, IsFirstLocked}
 use Rattle.round_runner.specs.Runners.{Running, IsPlaying, configuration_of}
+use Rattle.machine_runner.proofs.Eras.{still_last}
+use Rattle.machine_runner.proofs.FirstPassing.{still_known}
+use Rattle.machine_runner.proofs.KnownLocks.{other_era}
 use Rattle.round_runner.proofs.FirstLocked.{first_is_locked}
-use Rattle.round_runner.proofs.Firsts.{in_era, era_from}
-use Rattle.layer_runs.proofs.Playing.{same_known, other_era}
-use Rattle.round_runner.specs.Locks.{is_locked}
 use Rattle.round_runner.proofs.ScenesLock.{known_is}
-
--- where none of the numbers behind one passes, or one up to it did, nothing new is known later
-pub still_known : (passes : ℕ → Bool) (t d : ℕ) (known : Option ℕ) → first_locked passes t ≡ known
-    → ((u : ℕ) → t < u → u ≤ t + d → is_some known ≡ false → passes u ≡ false)
-    → first_locked passes (t + d) ≡ known
-still_known passes t zero known is none =
-    let here : t + 0 ≡ t = omega arith in
-    ap (first_locked passes) here ∙ is
-still_known passes t (suc d) known is none =
-    let step : t + suc d ≡ suc (t + d) = omega arith in
-    ap (first_locked passes) step
-    ∙ (ap (λ (o : Option ℕ). first_of o (passes (suc (t + d))) (suc (t + d)))
-    (still_known passes t d known is (λ u lo hi. none u lo (omega (arith, hi))))
-    ∙ kept known (λ out. none (suc (t + d)) (omega arith) (omega arith) out)) where
-      kept : (known : Option ℕ) → (is_some known ≡ false → passes (suc (t + d)) ≡ false)
-          → first_of known (passes (suc (t + d))) (suc (t + d)) ≡ known
-      kept (Some w) none = refl
-      kept None none = ap (λ b. first_of None b (suc (t + d))) (none refl)
-          ∙ same_known None (suc (t + d))
-
-module _ (script : Script) (whole : IsScript script) (at : ℕ)
-    (last : era_of script at ≡ length script.eras) where
-  -- the last era goes on to the end
-  last_end : end_of_era script (length script.eras) ≡ script.rounds + 1
-  last_end = ap (λ b. cond b (first_of_era script (length script.eras + 1)) (script.rounds + 1))
-      (le-ltb (length script.eras) (length script.eras) (omega arith))
-
-  pub still_last : (t : ℕ) → at ≤ t → t ≤ script.rounds → era_of script t ≡ length script.eras
-  still_last t lo hi =
-      let from = subst (λ j. first_of_era script j ≤ at) last
-      (era_from script whole.formed.rising at) in
-      in_era script whole.formed.rising (length script.eras) t (omega arith)
-      (omega (arith, from, lo)) (omega (arith, last_end, hi))
 
 module _ {O Kept : Type 0} (layer : O → Layer Kept) (kept : O → List Kept) (r : Running O)
     (whole : IsScript r.script) (within : r.at ≤ r.script.rounds) (j : ℕ)

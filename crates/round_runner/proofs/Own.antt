@@ -11,7 +11,7 @@ use Rattle.construction.specs.Steps.{state_of}
 use Rattle.shared_board.specs.Sharing.{place_among}
 use Rattle.shared_board.proofs.Ids.{place_of_id}
 use Rattle.round_runner.specs.Hearing.{TellsItself}
-use Rattle.round_runner.proofs.Heard.{is_among}
+use Rattle.machine_runner.proofs.Heard.{is_among}
 
 -- rising ids have each id in one place
 pub same_place : (ids : List ℕ) → IsStrictlyIncreasing ids → (k j : ℕ) → k < length ids

@@ -25,19 +25,19 @@ use Rattle.adversary_script.specs.Scripts.{Script, IsScript}
 use Rattle.adversary_script.specs.Eras.{era_of, end_of_era, faulty_of_era, faulty_at}
 use Rattle.adversary_script.specs.Lies.{AreStates, shifted}
 use Rattle.adversary_script.specs.Lookup.{hit_at}
-use Rattle.round_runner.specs.Locks.{first_locked, era_locked}
+use Rattle.round_runner.specs.Locks.{is_locked, first_locked, era_locked}
 use Rattle.round_runner.specs.Played.{heard_at, lies_at, played_at, after_round}
 use Rattle.round_runner.specs.Runners.{Running, IsPlaying, configuration_of}
-use Rattle.round_runner.specs.Scenes.{begun_kept, stepped_scene, scene_at}
+use Rattle.layer_laws.specs.PlayedScenes.{begun_kept, stepped_scene, scene_at}
 use Rattle.round_runner.specs.Skipping.{grown}
-use Rattle.round_runner.proofs.Firsts.{in_era, era_from, era_within, none_inside, none_hit}
+use Rattle.machine_runner.proofs.Firsts.{in_era, era_from, era_within, none_inside, none_hit}
 use Rattle.round_runner.proofs.Grown.{shifted_none, shifted_twice, settled_stays}
-use Rattle.round_runner.proofs.HeardAt.{heard_long}
+use Rattle.machine_runner.proofs.FirstPassing.{still_known}
+use Rattle.machine_runner.proofs.HeardAt.{heard_long}
+use Rattle.machine_runner.proofs.KnownLocks.{other_era}
 use Rattle.round_runner.proofs.Layering.{shown_itself}
-use Rattle.round_runner.proofs.LocksKnown.{still_known}
-use Rattle.layer_runs.proofs.Playing.{other_era}
-use Rattle.round_runner.specs.Locks.{is_locked}
-use Rattle.round_runner.proofs.Playing.{scene_is, scene_played}
+use Rattle.layer_laws.proofs.Playing.{scene_is}
+use Rattle.round_runner.proofs.Playing.{scene_played}
 use Rattle.round_runner.proofs.ScenesLock.{known_is}
 use Rattle.round_runner.proofs.SettledSteps.{settled_step}
 

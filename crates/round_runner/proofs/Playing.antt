@@ -1,30 +1,30 @@
 -- A runner that plays a script goes on to play it, and without a layer its configurations are the
 -- played ones.
-use Rattle.std.proofs.Common.{◌≡◌, ℕ, zero, suc, ◌+◌, ◌≤◌, List, [], length, map, get_or, set, Bool}
-use Rattle.std.proofs.Common.{Option, None, unwrap_or, refl, sym, ap, ap₂, ◌∙◌, subst, arith}
+use Rattle.std.proofs.Common.{◌≡◌, ℕ, zero, suc, ◌+◌, List, [], map, Option, unwrap_or, refl, sym}
+use Rattle.std.proofs.Common.{ap}
+use Rattle.std.proofs.Common.{ap₂, ◌∙◌, subst}
 use Rattle.std.proofs.Math.Path.{fun_ext}
 use Rattle.std.specs.List.{range_with_len}
-use Rattle.std.proofs.lemmas.List.{append-nil, get_or_default}
+use Rattle.std.proofs.lemmas.List.{append-nil}
 use Rattle.sync_types.specs.declared.states.Reg.{Reg}
-use Rattle.sync_types.specs.FaultSets.{FaultIds}
 use Rattle.sync_types.specs.States.{State}
 use Rattle.construction.specs.Plans.{Plan}
 use Rattle.construction.specs.Steps.{step_of}
 use Rattle.plan_laws.specs.PlanMeaning.{plan_meaning}
-use Rattle.counter_core.specs.Meanings.{Meaning}
 use Rattle.counter_core.specs.Overlays.{Layer}
 use Rattle.counter_core.specs.NoLayers.{no_layer}
 use Rattle.adversary_script.specs.Scripts.{Script, IsScript}
-use Rattle.adversary_script.specs.Eras.{era_of, faulty_of_era}
 use Rattle.adversary_script.specs.Lookup.{hit_at}
-use Rattle.round_runner.specs.Locks.{is_locked, first_of}
+use Rattle.machine_runner.specs.FirstLocked.{next_locks}
+use Rattle.machine_runner.proofs.KnownLocks.{first_known}
+use Rattle.round_runner.specs.Locks.{is_locked}
 use Rattle.round_runner.specs.Laws.{BareRunnersArePlayed}
 use Rattle.round_runner.specs.Played.{heard_at, played_at}
 use Rattle.layer_laws.specs.Scenes.{Scene}
-use Rattle.layer_runs.specs.Positions.{Position, IsPlayed, advanced}
-use Rattle.layer_runs.proofs.Playing.{first_known, is_played_on}
-use Rattle.round_runner.specs.Scenes.{begun_kept, stepped_scene, next_scene, scene_at, new_state}
-use Rattle.round_runner.specs.Runners.{Running, Advances, IsPlaying, begun, next_locks}
+use Rattle.layer_laws.specs.Positions.{Position, IsPlayed, advanced}
+use Rattle.layer_laws.proofs.Playing.{is_played_on}
+use Rattle.layer_laws.specs.PlayedScenes.{begun_kept, next_scene, scene_at, new_state}
+use Rattle.round_runner.specs.Runners.{Running, Advances, IsPlaying, begun}
 use Rattle.round_runner.specs.Runners.{scene_of, configuration_of, position_of}
 
 -- where a play of a plan stands, part by part
@@ -56,9 +56,10 @@ module _ {O Kept : Type 0} (layer : O → Layer Kept) (kept : O → List Kept) w
   advances_as old new step =
       let next : Scene Kept = next_scene (plan_meaning old.plan) old.script (layer old.overlay)
       old.at (scene_of kept old) in
-      let locks : new.locks ≡ next_locks old.plan old.script old.locks (old.at + 1) next.states =
+      let locks : new.locks
+      ≡ next_locks (is_locked old.plan) old.script old.locks (old.at + 1) next.states =
       step.locks ∙ ap₂ (λ (t : ℕ) (scene : Scene Kept).
-      next_locks old.plan old.script old.locks t scene.states) step.at step.scene in
+      next_locks (is_locked old.plan) old.script old.locks t scene.states) step.at step.scene in
       ap (λ (plan : Plan). stands plan new.script (layer new.overlay) new.at (scene_of kept new)
       new.locks) step.plan
       ∙ (ap₂ (λ (script : Script) (l : Layer Kept). stands old.plan script l new.at
@@ -111,38 +112,3 @@ pub advances_of : {O Kept : Type 0} (layer : O → Layer Kept) (kept : O → Lis
     → Advances layer kept old new
 advances_of layer kept old view new is step =
     subst (λ (r : Running _). Advances layer kept r new) (sym is) step
-
--- the steps of a round that has begun are those of the round
-pub stepped_is : {Kept : Type 0} (m : Meaning) (script : Script) (layer begun : Layer Kept) (t : ℕ)
-    (states : List State) (kept kept_begun : List Kept) → begun ≡ layer
-    → kept_begun ≡ map (layer.begun t) kept
-    → stepped_scene m script begun t states kept_begun
-    ≡ next_scene m script layer t (record { states = states; kept = kept })
-stepped_is m script layer begun t states kept kept_begun same is =
-    ap₂ (λ (l : Layer _) (k : List _). stepped_scene m script l t states k) same is
-
--- a scene, part by part
-pub scene_is : {Kept : Type 0} {states : List State} {kept : List Kept} {scene : Scene Kept}
-    → states ≡ scene.states → kept ≡ scene.kept → record { states = states; kept = kept } ≡ scene
-scene_is {scene = scene} states kept = ap₂ (λ (s : List State) (k : List _). let both : Scene _ =
-    record { states = s; kept = k } in both) states kept
-
--- what is written of the era of a configuration is what is known next
-pub locks_are : (plan : Plan) (script : Script) (locks : List (Option ℕ)) (at : ℕ)
-    (config : List State) (era : ℕ) (known : Option ℕ) (faulty : FaultIds) (lent : List State)
-    (now : Option ℕ)
-    → length locks ≡ length script.eras + 1 → era ≡ era_of script at → era ≤ length script.eras
-    → known ≡ get_or locks era known
-    → faulty ≡ record { nodes = script.nodes; ids = faulty_of_era script era } → lent ≡ config
-    → now ≡ first_of known (is_locked plan faulty.ids lent) at
-    → set locks era now ≡ next_locks plan script locks at config
-locks_are plan script locks at config era known faulty lent now long is among read set_is config_is
-    now_is =
-    let test : is_locked plan faulty.ids lent ≡ is_locked plan (faulty_of_era script era) config =
-    ap₂ (is_locked plan) (ap (λ (s : FaultIds). s.ids) set_is) config_is in
-    let own : now ≡ first_of (get_or locks era None)
-    (is_locked plan (faulty_of_era script era) config) at =
-    now_is ∙ ap₂ (λ (o : Option ℕ) (b : Bool). first_of o b at)
-    (read ∙ get_or_default locks era known None (omega (arith, among, long))) test in
-    ap (set locks era) own ∙ ap (λ (j : ℕ). set locks j
-    (first_of (get_or locks j None) (is_locked plan (faulty_of_era script j) config) at)) is

@@ -3,39 +3,19 @@ use Rattle.std.proofs.Common.{◌≡◌, ℕ, List, length, Option, refl, sym, a
 use Rattle.sync_types.specs.States.{State}
 use Rattle.construction.specs.Plans.{Plan}
 use Rattle.counter_core.specs.Overlays.{Layer}
-use Rattle.adversary_script.specs.Scripts.{Script, IsScript}
+use Rattle.adversary_script.specs.Scripts.{Script}
 use Rattle.state_codec.specs.Packs.{Pack}
-use Rattle.round_runner.specs.declared.stepping.Room.{Room}
+use Rattle.machine_runner.specs.FirstLocked.{begun_locks}
+use Rattle.machine_runner.proofs.Firsts.{begun_era}
+use Rattle.machine_runner.proofs.Rekeyed.{rekeyed, whole_still}
+use Rattle.round_runner.specs.declared.stepping.RoundBuffers.{RoundBuffers}
 use Rattle.round_runner.specs.Kept.{IsKept}
 use Rattle.round_runner.specs.Rooms.{IsReady}
 use Rattle.round_runner.specs.Played.{starts}
-use Rattle.round_runner.specs.Runners.{IsFor, Running, begun, begun_locks}
-use Rattle.round_runner.proofs.Firsts.{begun_era}
-
--- the script with another key
-abbrev pub rekeyed : Script → List ℕ → Script
-rekeyed script key = record script { key = key }
+use Rattle.round_runner.specs.Locks.{is_locked}
+use Rattle.round_runner.specs.Runners.{IsFor, Running, begun}
 
 module _ (script : Script) (key : List ℕ) where
-  pub whole_still : IsScript script → IsScript (rekeyed script key)
-  whole_still whole =
-      let formed = whole.formed in
-      record {
-        formed = record {
-          ids = formed.ids;
-          senders = formed.senders;
-          lies = formed.lies;
-          starts = formed.starts;
-          hits = formed.hits;
-          many = formed.many;
-          rising = formed.rising;
-          few = formed.few;
-          order = formed.order;
-          shown = formed.shown;
-        };
-        within = whole.within;
-      }
-
   pub right_still : {Kept : Type 0} (plan : Plan) (layer : Layer Kept) → IsFor plan layer script
       → IsFor plan layer (rekeyed script key)
   right_still plan layer right = record {
@@ -45,7 +25,7 @@ module _ (script : Script) (key : List ℕ) where
     borne = right.borne;
   }
 
-  pub ready_still : (plan : Plan) (room : Room) (noise : List ℕ) (out : State)
+  pub ready_still : (plan : Plan) (room : RoundBuffers) (noise : List ℕ) (out : State)
       → IsReady plan script room → noise ≡ key
       → length out.registers ≡ script.shape.depth
       → IsReady plan (rekeyed script key) (record room { noise = noise; out = out })
@@ -61,11 +41,12 @@ module _ (script : Script) (key : List ℕ) where
     out = deep;
   }
 
-  -- what a runner keeps, where it begins anew
-  kept_at_first : {Kept : Type 0} (plan : Plan) (layer : Layer Kept) (room : Room) (noise : List ℕ)
+  -- what a runner keeps, when it begins anew
+  kept_at_first : {Kept : Type 0} (plan : Plan) (layer : Layer Kept) (room : RoundBuffers)
+      (noise : List ℕ)
       (out : State) (states now : Pack) (locks begun : List (Option ℕ)) (at era : ℕ)
       → IsKept plan script layer room states locks at era → noise ≡ key
-      → length out.registers ≡ length room.out.registers → now.shape ≡ states.shape
+      → length out.registers ≡ script.shape.depth → now.shape ≡ states.shape
       → length now.current ≡ script.nodes → length begun ≡ length locks
       → IsKept plan (rekeyed script key) layer (record room { noise = noise; out = out }) now begun
       0 0
@@ -75,9 +56,9 @@ module _ (script : Script) (key : List ℕ) where
         accepted = kept.accepted;
         right = right_still plan layer kept.right;
         sound = kept.sound;
-        whole = whole_still kept.whole;
+        whole = whole_still script key kept.whole;
         fits = kept.fits;
-        ready = ready_still plan room noise out kept.ready is (deep ∙ kept.ready.out);
+        ready = ready_still plan room noise out kept.ready is deep;
         shape = shape ∙ kept.shape;
         size = size;
         within = omega arith;
@@ -85,11 +66,12 @@ module _ (script : Script) (key : List ℕ) where
         eras = long ∙ kept.eras;
       }
 
-  pub kept_anew : {Kept : Type 0} (plan : Plan) (layer : Layer Kept) (room : Room) (noise : List ℕ)
+  pub kept_anew : {Kept : Type 0} (plan : Plan) (layer : Layer Kept) (room : RoundBuffers)
+      (noise : List ℕ)
       (out : State) (states now : Pack) (locks begun : List (Option ℕ)) (at era : ℕ)
       (other : Script) → other ≡ rekeyed script key
       → IsKept plan script layer room states locks at era → noise ≡ key
-      → length out.registers ≡ length room.out.registers → now.shape ≡ states.shape
+      → length out.registers ≡ script.shape.depth → now.shape ≡ states.shape
       → length now.current ≡ script.nodes → length begun ≡ length locks
       → IsKept plan other layer (record room { noise = noise; out = out }) now begun 0 0
   kept_anew plan layer room noise out states now locks begun at era other same kept is deep shape
@@ -100,7 +82,7 @@ module _ (script : Script) (key : List ℕ) where
       (kept_at_first plan layer room noise out states now locks begun at era kept is deep shape size
       long)
 
--- what a runner is, where it begins anew
+-- what a runner is, when it begins anew
 module _ {O : Type 0} (plan : Plan) (overlay : O) where
   abbrev running : Script → (at : ℕ) → List State → List (Option ℕ) → Running O
   running script at states locks = record {
@@ -114,18 +96,19 @@ module _ {O : Type 0} (plan : Plan) (overlay : O) where
 
   begun_here : (script : Script) (key : List ℕ) (other : Script) (states : List State)
       (locks : List (Option ℕ)) → other ≡ rekeyed script key → states ≡ starts other
-      → locks ≡ begun_locks plan other states
+      → locks ≡ begun_locks (is_locked plan) other states
       → running other 0 states locks ≡ begun plan (rekeyed script key) overlay
   begun_here script key other states locks same start known =
       let here = start ∙ ap starts same in
       ap (λ (s : Script). running s 0 states locks) same
       ∙ ap₂ (λ (config : List State) (l : List (Option ℕ)). running (rekeyed script key) 0 config l)
-      here (known ∙ ap₂ (λ (s : Script) (config : List State). begun_locks plan s config) same here)
+      here (known
+      ∙ ap₂ (λ (s : Script) (config : List State). begun_locks (is_locked plan) s config) same here)
 
   pub begun_anew : (script : Script) (at : ℕ) (before : List State) (old : List (Option ℕ))
       (r : Running O) → running script at before old ≡ r → (key : List ℕ) (other : Script)
       (states : List State) (locks : List (Option ℕ)) → other ≡ rekeyed script key
-      → states ≡ starts other → locks ≡ begun_locks plan other states
+      → states ≡ starts other → locks ≡ begun_locks (is_locked plan) other states
       → running other 0 states locks ≡ begun r.plan (rekeyed r.script key) r.overlay
   begun_anew script at before old r view key other states locks same start known =
       subst (λ (r : Running O). running other 0 states locks

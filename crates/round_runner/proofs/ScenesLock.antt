@@ -1,11 +1,8 @@
--- What a runner knows of an era is its first locked configuration; where it reached the bound in
--- the era, there is one, at the bound or before.
+-- What a runner knows of an era is its first locked configuration; if it reached the bound in the
+-- era, there is one, at the bound or before.
 use Rattle.std.proofs.Common.{◌≡◌, ℕ, ◌+◌, ◌<◌, ◌≤◌, List, [], ◌∷◌, length, map, Option, None, sym}
 use Rattle.std.proofs.Common.{ap, ◌∙◌, subst, arith}
 use Rattle.std.specs.Prelude.{slice_index_or}
-use Rattle.std.proofs.lemmas.List.{length-map}
-use Rattle.std.proofs.lemmas.List.Elements.{All-get_or}
-use Rattle.std.proofs.lemmas.List.FromFn.{get_or-map-range_with_len}
 use Rattle.std.proofs.lemmas.List.{get_or-take}
 use Rattle.sync_types.specs.States.{State, register_at, zero_register}
 use Rattle.construction.specs.Plans.{Level, Plan, plan_bound}
@@ -17,17 +14,20 @@ use Rattle.plan_laws.proofs.RunLaws.{locks_at_bound}
 use Rattle.counter_core.specs.Meanings.{cut}
 use Rattle.counter_core.specs.Overlays.{Layer}
 use Rattle.state_codec.specs.Shapes.{IsShape}
-use Rattle.adversary_script.specs.Scripts.{Era, Script, IsScript, faulty_sets}
+use Rattle.adversary_script.specs.Scripts.{Script, IsScript}
 use Rattle.adversary_script.specs.Eras.{first_of_era, end_of_era, faulty_of_era}
 use Rattle.round_runner.specs.Laws.{IsUpTo}
-use Rattle.round_runner.specs.Locks.{first_locked, era_locked, IsFirstLocked}
+use Rattle.round_runner.specs.Locks.{is_locked, first_locked, era_locked, IsFirstLocked}
 use Rattle.round_runner.specs.Runners.{Running, IsFor, IsPlaying, configuration_of}
-use Rattle.round_runner.proofs.FirstLocked.{first_locked_below, passes, first_is_locked}
-use Rattle.round_runner.proofs.Firsts.{in_era}
+use Rattle.machine_runner.proofs.Eras.{of_each_era}
+use Rattle.machine_runner.proofs.FirstPassing.{first_locked_below}
+use Rattle.machine_runner.proofs.Firsts.{in_era}
+use Rattle.machine_runner.proofs.KnownLocks.{known_at}
+use Rattle.round_runner.proofs.FirstLocked.{passes, first_is_locked}
 use Rattle.round_runner.proofs.ScenesRun.{states_at, cut_at, cut_run, cut_length, cut_configuration}
 use Rattle.round_runner.proofs.ScenesRun.{scenes_run}
 
--- a configuration is locked where its states are when they are cut
+-- a configuration is locked if it is when its states are cut
 uncut_locked : (levels : List Level) (faulty : List ℕ) (config : List State)
     → IsLockedIn levels faulty (map (cut (length levels)) config)
     → IsLockedIn levels faulty config
@@ -48,9 +48,8 @@ module _ {Kept : Type 0} (plan : Plan) (script : Script) (layer : Layer Kept) (b
     (accepted : IsAccepted plan) (right : IsFor plan layer script) (sound : IsShape script.shape)
     (whole : IsScript script)
     (j : ℕ) (among : j ≤ length script.eras) where
-  pub borne : IsBorne plan (faulty_of_era script j)
-  borne = All-get_or (IsBorne plan) (faulty_sets script) j []
-      (omega (arith, among, length-map script.eras (λ (era : Era). era.faulty))) right.borne
+  borne : IsBorne plan (faulty_of_era script j)
+  borne = of_each_era (IsBorne plan) script j among right.borne
 
   -- the scene of an era at the bound is locked
   scene_locked : first_of_era script j + plan_bound plan < end_of_era script j
@@ -94,9 +93,8 @@ module _ {O Kept : Type 0} (layer : O → Layer Kept) (kept : O → List Kept) (
       → slice_index_or r.locks j None ≡ first_locked
       (era_locked r.plan r.script (configuration_of layer began r) j) r.at
   known_is began plays = ap (λ (locks : List (Option ℕ)). slice_index_or locks j None) plays.locks
-      ∙ get_or-map-range_with_len (λ i. first_locked
-      (era_locked r.plan r.script (configuration_of layer began r) i) r.at) 0
-      (length r.script.eras + 1) j j None (omega (arith, among)) (omega arith)
+      ∙ known_at (is_locked r.plan) r.script (configuration_of layer began r) r.at j None
+      (omega (arith, among))
 
   pub known_first : (began : List Kept) → IsPlaying layer kept began r
       → IsFirstLocked r.plan r.script (configuration_of layer began r) j r.at

@@ -29,11 +29,11 @@ use Rattle.adversary_script.specs.Lies.{fitted, start_of, lie_of}
 use Rattle.adversary_script.proofs.LiesInRange.{starts_in_range, lies_have}
 use Rattle.round_runner.specs.Played.{heard_at}
 use Rattle.round_runner.specs.Runners.{IsFor}
-use Rattle.round_runner.specs.Scenes.{begun_kept, layer_step, new_state, state_behind, scene_at}
+use Rattle.layer_laws.specs.PlayedScenes.{begun_kept, layer_step, new_state, state_behind, scene_at}
 use Rattle.round_runner.proofs.Fitting.{front_is, fitted_is}
-use Rattle.round_runner.proofs.Firsts.{in_era, none_inside, none_hit}
-use Rattle.round_runner.proofs.Hits.{put_has, hit_has}
-use Rattle.round_runner.proofs.Places.{each, placed}
+use Rattle.machine_runner.proofs.Firsts.{in_era, none_inside, none_hit}
+use Rattle.machine_runner.proofs.Hits.{put_has, hit_has}
+use Rattle.machine_runner.proofs.Places.{each, placed}
 
 -- a choice of two states, cut
 cut_choice : (d : ℕ) (b : Bool) (s t : State) → cond b (cut d s) (cut d t) ≡ cut d (cond b s t)
@@ -192,8 +192,8 @@ module _ {Kept : Type 0} (plan : Plan) (script : Script) (layer : Layer Kept)
               (told u node);
         }
 
-    -- where nobody is put into a state, the cut new state of each node is its step from what it
-    -- hears of cut states
+    -- if nobody is put into a state, the cut new state of each node is its step from what it hears
+    -- of cut states
     stepped : (t v n : ℕ) (faulty : List ℕ) → script.nodes ≡ n → faulty_at script t ≡ faulty → v < n
         → hit_at script (t + 1) v ≡ None
         → state_of (cut_at (suc t)) v ≡ step_of plan v (heard_by n faulty (cut_at t) (cut_lies t) v)

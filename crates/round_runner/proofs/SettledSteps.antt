@@ -1,5 +1,4 @@
--- The step of a node of a settled configuration: each of its fields is one more, whatever it is
--- told.
+-- The step of a node of a settled configuration: each of its fields is one more, whatever it hears.
 use Rattle.std.proofs.Common.{◌≡◌, ℕ, ◌+◌, ◌*◌, ◌/◌, ◌%◌, ◌<◌, ◌≤◌, Bool, true, false, cond}
 use Rattle.std.proofs.Common.{if◌then◌else◌, List, [], ◌∷◌, ◌++◌, length, map, take, get_or, Option}
 use Rattle.std.proofs.Common.{refl, sym, ap, ap₂, ◌∙◌, subst, ⊎_elim, arith}

@@ -8,8 +8,9 @@ use Rattle.std.proofs.lemmas.List.Elements.{All-set}
 use Rattle.sync_types.specs.States.{State, zero_state}
 use Rattle.construction.specs.Steps.{state_of}
 use Rattle.adversary_script.specs.Scripts.{Script}
-use Rattle.round_runner.specs.Hearing.{heard_from, IsOfSome, AreOfNodes, TellsItself}
-use Rattle.round_runner.proofs.HeardFrom.{heard_itself}
+use Rattle.machine_runner.specs.Hearing.{heard_from}
+use Rattle.round_runner.specs.Hearing.{IsOfSome, AreOfNodes, TellsItself}
+use Rattle.machine_runner.proofs.Told.{from_itself}
 
 module _ (script : Script) (t v : ℕ) (config : List State) (ids : List ℕ) (from room : ℕ)
     (key : List ℕ) where
@@ -57,7 +58,7 @@ module _ (script : Script) (t v : ℕ) (config : List State) (ids : List ℕ) (f
           ≡ heard_from script t v config (slice_index ids i)) (sym at)
           (h.own j lt (id ∙ it)
           ∙ sym (ap (heard_from script t v config) id
-          ∙ (heard_itself script t v config u it ∙ ap (state_of config) it)))
+          ∙ (from_itself script t v config u it ∙ ap (state_of config) it)))
       | inr ne ↦ h.told k low (omega (arith, high, ne))
     ];
     own = h.own;

@@ -9,12 +9,13 @@ use Rattle.state_codec.specs.Packs.{Pack}
 use Rattle.counter_core.specs.Overlays.{Layer}
 use Rattle.adversary_script.specs.Scripts.{Script, IsScript}
 use Rattle.adversary_script.specs.Eras.{era_of}
-use Rattle.round_runner.specs.declared.stepping.Room.{Room}
+use Rattle.round_runner.specs.declared.stepping.RoundBuffers.{RoundBuffers}
 use Rattle.round_runner.specs.Fits.{Fits}
 use Rattle.round_runner.specs.Rooms.{IsReady}
 use Rattle.round_runner.specs.Runners.{IsFor}
 
-pub record IsKept {Kept : Type 0} (plan : Plan) (script : Script) (layer : Layer Kept) (room : Room)
+pub record IsKept {Kept : Type 0} (plan : Plan) (script : Script) (layer : Layer Kept)
+    (room : RoundBuffers)
     (states : Pack) (locks : List (Option ℕ)) (at era : ℕ) : Type 0 where
   pub accepted : IsAccepted plan
   pub right : IsFor plan layer script

@@ -7,7 +7,7 @@ use Rattle.construction.specs.Plans.{Plan, plan_modulus}
 use Rattle.construction.specs.Runs.{AllShow}
 use Rattle.adversary_script.specs.Scripts.{Script}
 use Rattle.adversary_script.specs.Eras.{era_of, end_of_era, faulty_at}
-pub use Rattle.layer_runs.specs.Lowest.{lowest_correct}
+pub use Rattle.layer_laws.specs.Lowest.{lowest_correct}
 use Rattle.round_runner.specs.Locks.{first_locked, era_locked}
 use Rattle.round_runner.specs.Runners.{Running}
 
@@ -26,7 +26,7 @@ KnowsLocks r =
     × (is_some (slice_index_or r.locks (era_of r.script r.at) None) ≡ true))
 
 -- The configuration from which on the first locked one of each era is known: that of the last era,
--- or the last configuration where none of that era is locked.
+-- or the last configuration if none of that era is locked.
 abbrev pub known_from : Plan → Script → (config_at : ℕ → List State) → ℕ
 known_from plan script config_at =
     unwrap_or (first_locked (era_locked plan script config_at (length script.eras)) script.rounds)

@@ -1,5 +1,5 @@
 -- What holds of the configurations that are played of a script that was read for an accepted plan.
-use Rattle.std.specs.Prelude.{◌≡◌, ℕ, ◌+◌, ◌%◌, ◌<◌, ◌≤◌, ◌↔◌, List, [], length, true, Option, Some}
+use Rattle.std.specs.Prelude.{◌≡◌, ℕ, ◌+◌, ◌<◌, ◌≤◌, ◌↔◌, List, [], length, true}
 use Rattle.sync_types.specs.States.{State}
 use Rattle.construction.specs.Plans.{Plan, plan_modulus, plan_bound}
 use Rattle.construction.specs.Runs.{Run, Round, AllShow, IsLocked}
@@ -8,8 +8,10 @@ use Rattle.state_codec.specs.Shapes.{shape_of}
 use Rattle.counter_core.specs.declared.overlays.NoOverlay.{NoOverlay}
 use Rattle.counter_core.specs.NoLayers.{no_layer}
 use Rattle.adversary_script.specs.Scripts.{Script, IsScript}
-use Rattle.adversary_script.specs.Eras.{era_of, first_of_era, end_of_era, faulty_of_era, faulty_at}
+use Rattle.adversary_script.specs.Eras.{first_of_era, end_of_era, faulty_of_era, faulty_at}
 use Rattle.adversary_script.specs.ScriptPart.{IsFor}
+use Rattle.machine_runner.specs.Eras as any
+pub use Rattle.machine_runner.specs.Laws.{IsUpTo, IsOfOneEra, EachIsOfOneEra}
 use Rattle.round_runner.specs.Locks.{is_locked, first_locked, era_locked}
 use Rattle.round_runner.specs.Played.{played_at, era_run, lies_at}
 use Rattle.round_runner.specs.Runners.{Running, IsPlaying}
@@ -19,20 +21,6 @@ pub record IsReadFor (plan : Plan) (script : Script) : Type 0 where
   pub accepted : IsAccepted plan
   pub right : IsFor plan (shape_of plan) script
   pub whole : IsScript script
-
--- a number is known, which is at most this one
-pub record IsUpTo (limit : ℕ) (known : Option ℕ) : Type 0 where
-  pub number : ℕ
-  pub is : known ≡ Some number
-  pub most : number ≤ limit
-
--- Configuration t is of one era.
-pub record IsOfOneEra (script : Script) (t : ℕ) : Type 0 where
-  pub among : era_of script t ≤ length script.eras
-  pub from : first_of_era script (era_of script t) ≤ t
-  pub before : t < end_of_era script (era_of script t)
-  pub only : (j : ℕ) → j ≤ length script.eras → first_of_era script j ≤ t → t < end_of_era script j
-      → j ≡ era_of script t
 
 -- What is played of era j is a run of the plan with that era's faulty nodes, and each of its rounds
 -- has what they tell as its table of lies.
@@ -44,30 +32,22 @@ pub record EraIsRun (plan : Plan) (script : Script) (j : ℕ) : Type 0 where
 
 -- From that configuration to the end of era j all nodes that are correct in it show one number,
 -- which grows by one modulo C.
-pub record EraCountsFrom (plan : Plan) (script : Script) (j from : ℕ) : Type 0 where
-  pub output : ℕ → ℕ
-  pub shows : (t : ℕ) → from ≤ t → t < end_of_era script j
-      → AllShow plan (faulty_at script t) (played_at plan script t) (output t)
-  pub grows : (t : ℕ) → from ≤ t → t + 1 < end_of_era script j
-      → output (t + 1) ≡ (output t + 1) % plan_modulus plan
+abbrev pub EraCountsFrom : Plan → Script → (j from : ℕ) → Type 0
+EraCountsFrom plan script j from =
+    any.EraCounts (AllShow plan) (plan_modulus plan) script (played_at plan script) j from
 
 -- from that configuration to the end of era j each one is locked, and they count
-pub record EraStaysLocked (plan : Plan) (script : Script) (j from : ℕ) : Type 0 where
-  pub locked : (t : ℕ) → from ≤ t → t < end_of_era script j
-      → IsLocked plan (faulty_at script t) (played_at plan script t)
-  pub counts : EraCountsFrom plan script j from
-
--- Each configuration up to the last is of exactly one era.
-abbrev pub EachIsOfOneEra : Type 0
-EachIsOfOneEra = (script : Script) → IsScript script → (t : ℕ) → t ≤ script.rounds
-    → IsOfOneEra script t
+abbrev pub EraStaysLocked : Plan → Script → (j from : ℕ) → Type 0
+EraStaysLocked plan script j from =
+    any.EraStaysLocked (AllShow plan) (plan_modulus plan) script (played_at plan script) j from
+    (IsLocked plan)
 
 -- What is played of each era is a run, with the script's lies.
 abbrev pub ErasAreRuns : Type 0
 ErasAreRuns = (plan : Plan) (script : Script) → IsReadFor plan script
     → (j : ℕ) → j ≤ length script.eras → EraIsRun plan script j
 
--- Where an era reaches the bound, it has a first locked configuration, at the bound or before.
+-- If an era reaches the bound, it has a first locked configuration, at the bound or before.
 abbrev pub ErasLock : Type 0
 ErasLock = (plan : Plan) (script : Script) → IsReadFor plan script → (j : ℕ)
     → j ≤ length script.eras

@@ -6,7 +6,8 @@ use Rattle.plan_laws.specs.PlanMeaning.{plan_meaning}
 use Rattle.counter_core.specs.Overlays.{Layer, after}
 use Rattle.adversary_script.specs.Scripts.{Script}
 use Rattle.round_runner.specs.declared.turns.Round.{Round}
-use Rattle.round_runner.specs.Hearing.{AreHonest, AreOfNodes}
+use Rattle.machine_runner.specs.Hearing.{AreHonest}
+use Rattle.round_runner.specs.Hearing.{AreOfNodes}
 use Rattle.round_runner.specs.Played.{heard_at}
 
 -- The states of the correct nodes stand in their places, and in those of the faulty ones anything

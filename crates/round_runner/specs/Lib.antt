@@ -1,4 +1,3 @@
-pub mod Beginnings
 pub mod Fits
 pub mod Hearing
 pub mod Laying
@@ -10,6 +9,5 @@ pub mod Locks
 pub mod Played
 pub mod Rooms
 pub mod Runners
-pub mod Scenes
 pub mod Skipping
 pub mod Turns

@@ -1,39 +1,13 @@
 -- Whether a configuration is locked.
-use Rattle.std.specs.Prelude.{ℕ, suc, ◌<◌, ◌≤◌, List, [], ◌∷◌, length, map, filter, not}
-use Rattle.std.specs.Prelude.{nat_eq, Bool, true, ◌&&◌, Option, Some, None, unwrap_or}
-use Rattle.std.specs.List.{list_all, range_with_len}
-use Rattle.std.specs.Option.{option_eq}
-use Rattle.sync_types.specs.declared.states.Reg.{Reg}
-use Rattle.sync_types.specs.States.{State, register_at}
+use Rattle.std.specs.Prelude.{ℕ, List, [], ◌∷◌, length, Bool, true, Option}
+use Rattle.sync_types.specs.States.{State}
 use Rattle.construction.specs.Plans.{Level, Plan, nodes_of}
-use Rattle.construction.specs.Steps.{state_of}
-use Rattle.construction.specs.Runs.{is_in, IsLocked}
+use Rattle.construction.specs.Runs.{IsLocked}
 use Rattle.adversary_script.specs.Scripts.{Script}
-use Rattle.run_texts.specs.FirstLocked as words
-pub use Rattle.run_texts.specs.FirstLocked.{first_of, first_locked}
-use Rattle.adversary_script.specs.Eras.{first_of_era, end_of_era, faulty_of_era}
-
--- whether a register is marked and has the value a
-abbrev pub is_locked_at : ℕ → Reg → Bool
-is_locked_at a register = option_eq nat_eq register.a (Some a) && register.d
-
--- the value of the first register, where that is finite
-abbrev pub first_value : List Reg → ℕ
-first_value [] = 0
-first_value (register ∷ registers) = unwrap_or register.a 0
-
--- whether registers are one, finite and marked
-abbrev pub are_locked : List Reg → Bool
-are_locked registers = list_all (is_locked_at (first_value registers)) registers
-
--- the correct nodes among so many
-abbrev pub correct_nodes : ℕ → (faulty : List ℕ) → List ℕ
-correct_nodes n faulty = filter (λ v. not (is_in faulty v)) (range_with_len 0 n)
-
--- the registers of the correct nodes at a level
-abbrev pub correct_registers : (level n : ℕ) → (faulty : List ℕ) → List State → List Reg
-correct_registers level n faulty config = map (λ v. register_at level (state_of config v))
-    (correct_nodes n faulty)
+use Rattle.machine_runner.specs.FirstLocked as any
+pub use Rattle.machine_runner.specs.FirstLocked.{first_of, first_locked}
+use Rattle.machine_runner.specs.Locks.{correct_registers}
+pub use Rattle.machine_runner.specs.Locks.{are_locked, correct_nodes}
 
 -- whether the top registers of the correct nodes are; with no level every configuration is locked
 abbrev pub is_locked_in : List Level → (faulty : List ℕ) → List State → Bool
@@ -47,26 +21,10 @@ is_locked plan faulty config = is_locked_in plan.levels faulty config
 -- Of a script's configurations: whether configuration t is one of era j, and locked.
 abbrev pub era_locked : Plan → Script → (config_at : ℕ → List State) → (j : ℕ) → ℕ → Bool
 era_locked plan script config_at j t =
-    words.era_locked (is_locked plan) script config_at j t
+    any.era_locked (is_locked plan) script config_at j t
 
--- none of the configurations of era j before number `end` is locked
-abbrev pub NoneIsLocked : Plan → Script → (config_at : ℕ → List State) → (j end : ℕ) → Type 0
-NoneIsLocked plan script config_at j end =
-    (t : ℕ) → first_of_era script j ≤ t → t < end_of_era script j → t < end
-    → IsLocked plan (faulty_of_era script j) (config_at t) → ⊥
-
--- configuration t is of era j and locked, and none of that era before it is
-pub record IsLockedFirst (plan : Plan) (script : Script) (config_at : ℕ → List State)
-    (j t : ℕ) : Type 0 where
-  pub from : first_of_era script j ≤ t
-  pub before : t < end_of_era script j
-  pub locked : IsLocked plan (faulty_of_era script j) (config_at t)
-  pub first : NoneIsLocked plan script config_at j t
-
--- The first locked one of the configurations of era j up to number `at`; none, where none of them
--- is.
+-- The first locked one of the configurations of era j up to number `at`; none if none of them is.
 abbrev pub IsFirstLocked : Plan → Script → (config_at : ℕ → List State) → (j at : ℕ) → Option ℕ
     → Type 0
-IsFirstLocked plan script config_at j at (Some t) = (t ≤ at)
-    × IsLockedFirst plan script config_at j t
-IsFirstLocked plan script config_at j at None = NoneIsLocked plan script config_at j (suc at)
+IsFirstLocked plan script config_at j at known =
+    any.IsFirstLocked (IsLocked plan) script config_at j at known

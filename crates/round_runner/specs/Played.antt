@@ -1,16 +1,16 @@
 -- The run of a script: configurations 0 to its last round.
-use Rattle.std.specs.Prelude.{ℕ, zero, suc, ◌+◌, ◌-◌, List, map, unwrap_or}
+use Rattle.std.specs.Prelude.{ℕ, zero, suc, ◌+◌, List, map, unwrap_or}
 use Rattle.std.specs.List.{range_with_len}
 use Rattle.sync_types.specs.States.{State}
 use Rattle.construction.specs.Plans.{Plan}
 use Rattle.construction.specs.Steps.{step_of}
 use Rattle.adversary_script.specs.Scripts.{Script}
-use Rattle.adversary_script.specs.Eras.{first_of_era, end_of_era}
 use Rattle.adversary_script.specs.Lookup.{hit_at}
 pub use Rattle.adversary_script.specs.Rounds.{starts, lies_at, heard_at}
+use Rattle.machine_runner.specs.Eras.{of_era}
 
--- Every node, the puppets of faulty ones too, steps from what it hears; where an era begins behind
--- the round, a node with a start line there is put into its state.
+-- Every node, the puppets of faulty ones too, steps from what it hears; if an era begins after the
+-- round, a node with a start line there is put into its state.
 abbrev pub after_round : Plan → Script → (t : ℕ) → List State → List State
 after_round plan script t config =
     map (λ v. unwrap_or (hit_at script (t + 1) v) (step_of plan v (heard_at script t config v)))
@@ -23,6 +23,4 @@ played_at plan script (suc t) = after_round plan script t (played_at plan script
 
 -- the configurations of era j
 abbrev pub era_run : Plan → Script → (j : ℕ) → List (List State)
-era_run plan script j =
-    map (λ i. played_at plan script (first_of_era script j + i))
-    (range_with_len 0 (end_of_era script j - first_of_era script j))
+era_run plan script j = of_era script (played_at plan script) j

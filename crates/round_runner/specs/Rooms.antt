@@ -3,16 +3,12 @@ use Rattle.std.specs.Prelude.{◌≡◌, length}
 use Rattle.construction.specs.Plans.{Plan}
 use Rattle.adversary_script.specs.Scripts.{Script}
 use Rattle.counter_core.specs.Working.{IsFor}
-use Rattle.round_runner.specs.declared.stepping.Room.{Room}
-use Rattle.round_runner.specs.Hearing.{HasRoom, AreOfNodes}
-
--- it writes states of the script, with the script's noise
-pub record CanWrite (script : Script) (room : Room) : Type 0 where
-  pub noise : room.noise ≡ script.key
-  pub out : length room.out.registers ≡ script.shape.depth
+use Rattle.round_runner.specs.declared.stepping.RoundBuffers.{RoundBuffers}
+use Rattle.machine_runner.specs.Hearing.{HasRoom}
+use Rattle.round_runner.specs.Hearing.{AreOfNodes}
 
 -- it was made for the plan and the script; as many may lie as there are nodes
-pub record IsReady (plan : Plan) (script : Script) (room : Room) : Type 0 where
+pub record IsReady (plan : Plan) (script : Script) (room : RoundBuffers) : Type 0 where
   pub noise : room.noise ≡ script.key
   pub heard : HasRoom script room.heard.items
   pub told : length room.lies.items ≡ script.nodes

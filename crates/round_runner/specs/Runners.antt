@@ -1,20 +1,18 @@
 -- What a runner of a script is, and that it plays the script.
-use Rattle.std.specs.Prelude.{◌≡◌, ℕ, ◌+◌, List, ◌∷◌, length, map, All, replicate, slice_set}
-use Rattle.std.specs.Prelude.{slice_index_or, Option, None}
-use Rattle.std.specs.List.{range_with_len}
+use Rattle.std.specs.Prelude.{◌≡◌, ℕ, ◌+◌, List, All, Option}
 use Rattle.sync_types.specs.States.{State}
 use Rattle.construction.specs.Plans.{Plan, plan_nodes}
 use Rattle.construction.specs.Runs.{IsBorne}
 use Rattle.plan_laws.specs.PlanMeaning.{plan_meaning}
 use Rattle.state_codec.specs.Shapes.{shape_with}
-use Rattle.counter_core.specs.Overlays.{Layer, StandsOver}
+use Rattle.counter_core.specs.Overlays.{Layer, LayerFits}
 use Rattle.adversary_script.specs.Scripts.{Script, faulty_sets}
-use Rattle.adversary_script.specs.Eras.{era_of, faulty_at}
-use Rattle.round_runner.specs.Locks.{is_locked, first_of, first_locked, era_locked}
+use Rattle.machine_runner.specs.FirstLocked.{begun_locks, next_locks, known_locks}
+use Rattle.round_runner.specs.Locks.{is_locked}
 use Rattle.round_runner.specs.Played.{starts}
 use Rattle.layer_laws.specs.Scenes.{Scene}
-use Rattle.layer_runs.specs.Positions.{Position}
-use Rattle.round_runner.specs.Scenes.{next_scene, scene_at}
+use Rattle.layer_laws.specs.Positions.{Position}
+use Rattle.layer_laws.specs.PlayedScenes.{next_scene, scene_at}
 
 -- A runner: its plan, script and layer, and configuration `at`; of each era the first configuration
 -- so far that is locked.
@@ -26,18 +24,12 @@ pub record Running (O : Type 0) : Type 0 where
   pub states : List State
   pub locks : List (Option ℕ)
 
--- The script was read for the plan, and states have the layer's registers behind those of the
--- plan.
+-- The script was read for the plan, and states have the layer's registers after those of the plan.
 pub record IsFor {Kept : Type 0} (plan : Plan) (layer : Layer Kept) (script : Script) : Type 0 where
   pub nodes : script.nodes ≡ plan_nodes plan
   pub shape : script.shape ≡ shape_with plan layer.values layer.extra
-  pub over : StandsOver layer (plan_meaning plan)
+  pub over : LayerFits layer (plan_meaning plan)
   pub borne : All (IsBorne plan) (faulty_sets script)
-
--- the first locked configuration of each era so far, at configuration 0, which this is
-abbrev pub begun_locks : Plan → Script → List State → List (Option ℕ)
-begun_locks plan script config = first_of None (is_locked plan script.faulty config) 0 ∷ replicate
-    (length script.eras) None
 
 -- the runner before its first round
 abbrev pub begun : {O : Type 0} → Plan → Script → O → Running O
@@ -47,19 +39,12 @@ begun plan script overlay = record {
   overlay = overlay;
   at = 0;
   states = starts script;
-  locks = begun_locks plan script (starts script);
+  locks = begun_locks (is_locked plan) script (starts script);
 }
 
 -- the scene of a runner
 abbrev pub scene_of : {O Kept : Type 0} → (kept_of : O → List Kept) → Running O → Scene Kept
 scene_of kept_of r = record { states = r.states; kept = kept_of r.overlay }
-
--- the same with this configuration, which is the next one
-abbrev pub next_locks : Plan → Script → List (Option ℕ) → (at : ℕ) → List State → List (Option ℕ)
-next_locks plan script locks at config =
-    let era = era_of script at in
-    slice_set locks era (first_of (slice_index_or locks era None)
-    (is_locked plan (faulty_at script at) config) at)
 
 -- What a round does: the layer's step is added to each step.
 pub record Advances {O Kept : Type 0} (layer_of : O → Layer Kept) (kept_of : O → List Kept)
@@ -70,7 +55,7 @@ pub record Advances {O Kept : Type 0} (layer_of : O → Layer Kept) (kept_of : O
   pub at : new.at ≡ old.at + 1
   pub scene : scene_of kept_of new ≡ next_scene (plan_meaning old.plan) old.script
       (layer_of old.overlay) old.at (scene_of kept_of old)
-  pub locks : new.locks ≡ next_locks old.plan old.script old.locks new.at new.states
+  pub locks : new.locks ≡ next_locks (is_locked old.plan) old.script old.locks new.at new.states
 
 -- scene t of what a runner plays, with a layer in which the nodes began with these things kept
 abbrev pub played_scene : {O Kept : Type 0} → (layer_of : O → Layer Kept) → (began : List Kept)
@@ -101,6 +86,5 @@ position_of layer_of kept_of r = record {
 pub record IsPlaying {O Kept : Type 0} (layer_of : O → Layer Kept) (kept_of : O → List Kept)
     (began : List Kept) (r : Running O) : Type 0 where
   pub scene : scene_of kept_of r ≡ played_scene layer_of began r r.at
-  pub locks : r.locks ≡ map (λ j. first_locked
-      (era_locked r.plan r.script (configuration_of layer_of began r) j) r.at)
-      (range_with_len 0 (length r.script.eras + 1))
+  pub locks : r.locks
+      ≡ known_locks (is_locked r.plan) r.script (configuration_of layer_of began r) r.at

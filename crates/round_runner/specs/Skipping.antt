@@ -1,4 +1,4 @@
--- A configuration so many rounds on, where each field grows by one in each round.
+-- A configuration so many rounds on, if each field grows by one in each round.
 use Rattle.std.specs.Prelude.{◌≡◌, ℕ, List, map}
 use Rattle.std.specs.List.{range_with_len}
 use Rattle.sync_types.specs.States.{State}

@@ -7,19 +7,19 @@ use Rattle.plan_numbers.specs.Premises.{IsAccepted}
 use Rattle.plan_laws.specs.PlanMeaning.{plan_meaning, IsInRange}
 use Rattle.state_codec.specs.Packs.{Pack}
 use Rattle.shared_board.specs.Sharing.{stands_for}
-use Rattle.counter_core.specs.Overlays.{Layer, StandsOver}
+use Rattle.counter_core.specs.Overlays.{Layer, LayerFits}
 use Rattle.adversary_script.specs.Scripts.{Script, IsScript}
 use Rattle.adversary_script.specs.Eras.{faulty_at}
-use Rattle.round_runner.specs.declared.stepping.Room.{Room}
+use Rattle.round_runner.specs.declared.stepping.RoundBuffers.{RoundBuffers}
 use Rattle.round_runner.specs.declared.turns.Round.{Round}
-use Rattle.round_runner.specs.declared.turns.Turn.{Turn}
-use Rattle.round_runner.specs.Beginnings.{BeginsAt}
+use Rattle.round_runner.specs.declared.turns.NodeStep.{NodeStep}
+use Rattle.machine_runner.specs.Beginnings.{BeginsAt}
 use Rattle.round_runner.specs.Fits.{Fits}
 use Rattle.round_runner.specs.Laying.{IsLaid}
 use Rattle.round_runner.specs.Played.{heard_at}
 use Rattle.round_runner.specs.Rooms.{IsReady}
 
--- It is one of the script, which bears no more faulty nodes than the plan.
+-- It is one of the script, and the plan tolerates the nodes that are faulty in it.
 pub record IsRound (r : Round) : Type 0 where
   pub accepted : IsAccepted r.tower.now
   pub script : IsScript r.script.now
@@ -30,29 +30,24 @@ pub record IsRound (r : Round) : Type 0 where
   pub round : r.t < r.script.now.rounds
   pub begins : BeginsAt r.script.now (r.t + 1) r.begins
 
--- what the node of a turn hears
-abbrev pub heard_in : Turn → List State
+-- what the node hears
+abbrev pub heard_in : NodeStep → List State
 heard_in turn = heard_at turn.round.now.script.now turn.round.now.t turn.states.now.current turn.v
-
--- a configuration of the script's nodes, of its shape
-pub record IsConfiguration (script : Script) (states : Pack) : Type 0 where
-  pub shape : states.shape ≡ script.shape
-  pub size : length states.current ≡ script.nodes
 
 -- the layer, the configuration and the room are those of the round
 pub record IsSet {Kept : Type 0} (round : Round) (layer : Layer Kept) (states : Pack)
-    (room : Room) : Type 0 where
+    (room : RoundBuffers) : Type 0 where
   pub fits : Fits round.script.now.shape (plan_meaning round.tower.now)
       (IsInRange round.tower.now) layer
-  pub over : StandsOver layer (plan_meaning round.tower.now)
+  pub over : LayerFits layer (plan_meaning round.tower.now)
   pub shape : states.shape ≡ round.script.now.shape
   pub size : length states.current ≡ round.script.now.nodes
   pub ready : IsReady round.tower.now round.script.now room
 
--- They are set, what all receivers share is counted, and where a layer hears, the states of the
+-- They are set, what all receivers share is counted, and if a layer hears, the states of the
 -- correct nodes stand in their places.
 pub record IsGathered {Kept : Type 0} (round : Round) (layer : Layer Kept) (states : Pack)
-    (room : Room) : Type 0 where
+    (room : RoundBuffers) : Type 0 where
   pub set : IsSet round layer states room
   pub stands : room.shared
       ≡ stands_for round.tower.now states.current (faulty_at round.script.now round.t)

@@ -14,7 +14,7 @@ pub(crate) fn grow(by: u64, out: &mut NodeState, states: &mut Packed)
     } }
     ensures depth { length out.new.registers ≡ length out.old.registers }
 {
-    states.tell();
+    states.facts();
     for v in 0..states.nodes() {
         shift_into(states, v, by, v, out);
         states.put(v, out);

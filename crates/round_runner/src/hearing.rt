@@ -1,55 +1,9 @@
 //! What a node hears in the round that is to be played.
 
-ghost use Rattle.std.specs.Prelude.{◌≡◌, ◌<◌, length};
-ghost use Rattle.round_runner.specs.Hearing.{HasRoom};
-ghost use Rattle.round_runner.specs.Played.{heard_at};
-
-use crate::rounds::lay;
 use crate::runners::Runner;
-use adversary_script::{Noise, Script};
 use counter_core::Overlay;
-use state_codec::Packed;
+use machine_runner::{Receiver, lay};
 use sync_types::NodeState;
-
-/// A node that hears in a round what is told from a configuration of the script's nodes.
-#[derive(Clone, Copy, Drop)]
-struct Receiver<'a> {
-    script: &'a Script,
-    states: &'a Packed,
-    /// The round's number.
-    t: u64,
-    /// The node.
-    v: u32,
-    ghost left: { t < script.now.rounds },
-    ghost node: { v < script.now.nodes },
-    ghost shape: { states.now.shape ≡ script.now.shape },
-    ghost size: { length states.now.current ≡ script.now.nodes },
-}
-
-impl Receiver<'_> {
-    /// Lays what it hears of each node into its place: the lie of another node that is faulty in
-    /// the round, and else the true state.
-    fn hear_all(&self, noise: &mut Noise, heard: &mut [NodeState])
-        requires noise { noise.old ≡ self.now.script.now.key }
-        requires room { HasRoom self.now.script.now heard.old }
-        ensures heard { heard.new ≡ heard_at self.now.script.now self.now.t
-            self.now.states.now.current self.now.v }
-        ensures room { HasRoom self.now.script.now heard.new }
-        ensures noise { noise.new ≡ noise.old }
-    {
-        self.states.tell();
-        let faulty = self.script.faulty_at(self.t);
-        for u in 0..self.states.nodes() {
-            let out = &mut heard[u as usize];
-            if u != self.v && faulty.contains(u) {
-                self.script
-                    .lie_into(noise, self.t, u, self.v, self.states, out);
-            } else {
-                self.states.old(u, out);
-            }
-        }
-    }
-}
 
 impl<O: Overlay> Runner<O> {
     ghost use Rattle.std.specs.Prelude.{◌≡◌, ◌<◌, length, All};
@@ -66,7 +20,7 @@ impl<O: Overlay> Runner<O> {
         ensures deep { All (λ s. length s.registers ≡ self.now.script.shape.depth)
             config.new }
     {
-        self.states.tell();
+        self.states.facts();
         lay(&self.states, config);
     }
 
@@ -83,12 +37,15 @@ impl<O: Overlay> Runner<O> {
             heard.new }
         ensures same { self.new ≡ self.old }
     {
+        self.states.facts();
+        lay(&self.states, heard);
         let receiver = Receiver {
             script: &self.script,
+            faulty: self.script.era_faulty(self.era),
             states: &self.states,
             t: self.at,
             v,
         };
-        receiver.hear_all(&mut self.room.noise, heard);
+        receiver.hear(&mut self.room.noise, heard);
     }
 }

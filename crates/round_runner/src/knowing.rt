@@ -1,6 +1,6 @@
 use crate::runners::Runner;
 use counter_core::Overlay;
-use layer_runs::lowest_correct;
+use layer_laws::lowest_correct;
 
 impl<O: Overlay> Runner<O> {
     ghost use Rattle.std.specs.Prelude.{◌≡◌, ◌↔◌, ◌≤◌, ◌<◌, ◌+◌, List, None, true, length, is_some};
@@ -9,16 +9,16 @@ impl<O: Overlay> Runner<O> {
     ghost use Rattle.construction.specs.Shown.{shown};
     ghost use Rattle.construction.specs.Steps.{state_of};
     ghost use Rattle.adversary_script.specs.Eras.{era_of, faulty_at, first_of_era, end_of_era};
-    ghost use Rattle.layer_runs.specs.Lowest.{lowest_correct};
+    ghost use Rattle.layer_laws.specs.Lowest.{lowest_correct};
     ghost use Rattle.round_runner.specs.Known.{CountsOn, KnowsLocks};
     ghost use Rattle.round_runner.specs.Laws.{IsUpTo};
     ghost use Rattle.round_runner.specs.Locks.{first_locked, era_locked, IsFirstLocked};
     ghost use Rattle.round_runner.specs.Runners.{IsPlaying, configuration_of};
 
-    /// The first configuration of era `j` so far that is locked, None exactly where there is none.
-    /// Where the runner plays its script and has reached the plan's bound in that era, there is
-    /// one, at the bound or before. Once all of them [are known](Runner::knows_locks), it is that
-    /// of the whole run.
+    /// The first configuration of era `j` so far that is locked, None exactly if there is none. If
+    /// the runner plays its script and has reached the plan's bound in that era, there is one, at
+    /// the bound or before. Once all of them [are known](Runner::knows_locks), it is that of the
+    /// whole run.
     pub fn locked_in(&self, j: usize) -> Option<u64>
         requires { j ≤ length self.now.script.eras }
         ensures value { result ≡ slice_index_or self.now.locks j None }
@@ -66,9 +66,9 @@ impl<O: Overlay> Runner<O> {
             || self.locked_at().is_some() && self.era + 1 == self.script.eras()
     }
 
-    /// What all correct nodes show, where a configuration of the era of `at` so far was locked,
-    /// and None exactly where none was. To the end of the era it grows by one modulo C in each
-    /// round, whatever is told.
+    /// What all correct nodes show, if a configuration of the era of `at` so far was locked, and
+    /// None exactly if none was. To the end of the era it grows by one modulo C in each round,
+    /// whatever is told.
     pub fn counted(&self) -> Option<u64>
         ensures some { is_some result
             ≡ is_some (slice_index_or self.now.locks (era_of self.now.script self.now.at) None) }

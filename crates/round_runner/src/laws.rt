@@ -16,7 +16,7 @@ pub fn eras_are_runs()
     ensures { ErasAreRuns }
 {}
 
-/// Where an era goes on to the plan's bound, it has a first locked configuration, at the bound or
+/// If an era goes on to the plan's bound, it has a first locked configuration, at the bound or
 /// before.
 pub fn eras_lock()
     ensures { ErasLock }

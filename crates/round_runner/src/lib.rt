@@ -1,7 +1,7 @@
 //! Plays a script on the counter of a plan, round by round, with a layer above the counter.
 //!
 //! A [`Runner`] is always at the configuration that the script's run has at that round. A round
-//! takes no memory and cannot fail. It is a [`Play`](layer_runs::Play), as what writes lines of it
+//! takes no memory and cannot fail. It is a [`Play`](layer_laws::Play), as what writes lines of it
 //! asks. [`laws`] says what holds of all that it plays. What a configuration shows, and whether it
 //! is locked, can be asked of any.
 #![tactic(auto)]
@@ -11,7 +11,6 @@ mod hearing;
 mod knowing;
 pub mod laws;
 mod locks;
-mod plays;
 mod positions;
 mod restarting;
 mod rounds;

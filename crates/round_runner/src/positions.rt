@@ -1,14 +1,14 @@
 use crate::runners::Runner;
 use adversary_script::Script;
 use counter_core::Overlay;
-use layer_runs::Play;
+use layer_laws::Play;
 
 impl<O: Overlay> Play<O> for Runner<O> {
     ghost use Rattle.round_runner.specs.Runners.{position_of};
 
     ghost position = { position_of O.layer O.kept };
 
-    fn tell(&self) {
+    fn facts(&self) {
         let _at = self.at;
     }
 

@@ -1,16 +1,15 @@
-ghost use Rattle.std.specs.Prelude.{◌≡◌, ◌<◌, ◌≤◌, length, IfOk};
+ghost use Rattle.std.specs.Prelude.{◌≡◌, length, IfOk};
+ghost use Rattle.construction.specs.Plans.{plan_nodes};
 ghost use Rattle.round_runner.specs.Hearing.{AreOfNodes};
 ghost use Rattle.round_runner.specs.Rooms.{IsReady};
-ghost use Rattle.round_runner.specs.Runners.{begun_locks};
 
-use crate::locks::Snapshot;
-use crate::plays::{Beginning, Play};
-use crate::restarting::start_all;
-use crate::rounds::{beginning_in, step_all};
-use crate::stepping::{Room, shown_at};
+use crate::locks::{is_locked, known_or_locked};
+use crate::rounds::step_all;
+use crate::stepping::{RoundBuffers, shown_at};
 use crate::turns::Round;
 use adversary_script::{Noise, Script};
 use counter_core::{Counter, Overlay};
+use machine_runner::{beginning_in, first_locks, note_lock, start_all};
 use majority_votes::Steps;
 use state_codec::{Packed, StateShape};
 use std::alloc::Global;
@@ -24,7 +23,7 @@ pub struct Runner<O: Overlay> {
     pub(crate) tower: Tower,
     pub(crate) script: Script,
     pub(crate) overlay: O,
-    pub(crate) room: Room,
+    pub(crate) room: RoundBuffers,
     pub(crate) states: Packed,
     pub(crate) at: u64,
     // The era of `at`.
@@ -33,7 +32,7 @@ pub struct Runner<O: Overlay> {
     pub(crate) locks: Vec<Option<u64>>,
 }
 
-// Written out, so that what lets go of one calls this, and no more.
+// Written out, so that code that drops one has a single call.
 impl<O: Overlay> Drop for Runner<O> {
     fn drop(self) {
         let Runner {
@@ -74,40 +73,35 @@ impl<O: Overlay> Model for Runner<O> {
         (O.layer r.overlay) r.room r.states r.locks.items r.at r.era };
 }
 
-/// Of each era the first locked configuration so far, where configuration 0 is that one.
-fn first_locks(alloc: Global, begun: &Beginning<'_>) -> Result<Vec<Option<u64>>, NoMemory>
-    ensures { IfOk result (λ locks. locks.items ≡ begun_locks begun.now.play.now.tower.now
-        begun.now.play.now.script.now begun.now.config.now.current) }
-{
-    let mut locks = vec![in alloc; None; begun.play.script.eras()]?;
-    locks[0] = begun.lock();
-    Ok(locks)
-}
-
 /// Zero states of that shape, one for each node. What the faulty nodes tell will stand in them.
 fn zero_lies(alloc: Global, script: &Script, shape: &StateShape) -> Result<Vec<NodeState>, NoMemory>
     requires { shape.now ≡ script.now.shape }
     ensures told { IfOk result (λ lies. length lies.items ≡ script.now.nodes) }
     ensures lies { IfOk result (λ lies. AreOfNodes script.now lies.items) }
 {
-    shape.tell();
+    shape.facts();
     let lies = NodeState::zeros(alloc, script.faulty().nodes(), shape.depth())?;
     Ok(lies)
 }
 
 /// What rounds need beside two configurations, whose states have that shape.
-fn room_for(alloc: Global, play: &Play<'_>, shape: &StateShape) -> Result<Room, NoMemory>
-    requires { shape.now ≡ play.now.script.now.shape }
-    ensures { IfOk result (IsReady play.now.tower.now play.now.script.now) }
+fn room_for(
+    alloc: Global,
+    tower: &Tower,
+    script: &Script,
+    shape: &StateShape,
+) -> Result<RoundBuffers, NoMemory>
+    requires nodes { script.now.nodes ≡ plan_nodes tower.now }
+    requires shape { shape.now ≡ script.now.shape }
+    ensures { IfOk result (IsReady tower.now script.now) }
 {
-    let script = play.script;
     let depth = shape.depth();
-    Ok(Room {
+    Ok(RoundBuffers {
         noise: Noise::with_room(alloc, script)?,
         heard: NodeState::zeros(alloc, script.faulty().nodes(), depth)?,
         lies: zero_lies(alloc, script, shape)?,
-        shared: play.tower.shared(alloc)?,
-        work: play.tower.work(alloc)?,
+        shared: tower.shared(alloc)?,
+        work: tower.work(alloc)?,
         out: NodeState::zero(alloc, depth)?,
     })
 }
@@ -130,7 +124,7 @@ impl<O: Overlay> Runner<O> {
     /// A runner of a script at configuration 0. It takes all the memory that it ever needs.
     ///
     /// The tower, the shape and the script are of one plan: the script was read with this shape,
-    /// which has the registers of the layer behind those of the plan.
+    /// which has the registers of the layer after those of the plan.
     pub fn new(
         alloc: Global,
         tower: Tower,
@@ -143,21 +137,14 @@ impl<O: Overlay> Runner<O> {
         ensures begun { IfOk result (λ runner. runner ≡ begun tower script overlay) }
         ensures played { IfOk result (IsPlaying O.layer O.kept (O.kept overlay)) }
     {
-        shape.tell();
+        shape.facts();
         tower.tell();
         let _rounds = script.rounds();
-        let play = Play {
-            tower: &tower,
-            script: &script,
-        };
-        let mut room = room_for(alloc, &play, &shape)?;
+        let mut room = room_for(alloc, &tower, &script, &shape)?;
         let mut states = Packed::new(alloc, shape, script.faulty().nodes())?;
-        start_all(&script, &mut room, &mut states);
-        let begun = Beginning {
-            play: &play,
-            config: &states,
-        };
-        let locks = first_locks(alloc, &begun)?;
+        start_all(&script, &mut room.noise, &mut room.out, &mut states);
+        let locked = is_locked(&tower, script.faulty(), &states);
+        let locks = first_locks(alloc, &script, locked)?;
         Ok(Runner {
             tower,
             script,
@@ -171,7 +158,7 @@ impl<O: Overlay> Runner<O> {
     }
 
     /// Makes the next configuration: every node steps, the faulty ones too, from what it hears, and
-    /// where an era begins nodes are put into the states that it gives them. It takes no memory and
+    /// if an era begins, nodes are put into the states that it gives them. It takes no memory and
     /// cannot fail. There is a round left to play.
     pub fn round(&mut self)
         requires { self.old.at < self.old.script.rounds }
@@ -227,12 +214,9 @@ impl<O: Overlay> Runner<O> {
         self.states.flip();
         self.at += 1;
         self.era = era;
-        let snapshot = Snapshot {
-            tower: &self.tower,
-            faulty: self.script.era_faulty(era),
-            config: &self.states,
-        };
-        self.locks[era] = snapshot.locked_so_far(self.locks[era], self.at);
+        let faulty = self.script.era_faulty(era);
+        let locked = known_or_locked(self.locks[era], &self.tower, faulty, &self.states);
+        note_lock(era, locked, self.at, &mut self.locks);
     }
 
     /// How many rounds were played.
@@ -280,8 +264,8 @@ impl<O: Overlay> Runner<O> {
         shown_at(&self.states, v, self.tower.depth())
     }
 
-    /// What node `v` shows one level down: what it shows in its block, or 0 where it is a spare of
-    /// the top level. The plan has a level.
+    /// What node `v` shows one level down: what it shows in its block, or 0 if it is a spare of the
+    /// top level. The plan has a level.
     pub fn inner_output(&self, v: u32) -> u64
         requires node { v < plan_nodes self.now.plan }
         requires level { 1 ≤ plan_depth self.now.plan }
@@ -316,7 +300,7 @@ impl<O: Overlay> Runner<O> {
             ≡ written_text (fields_at self.old.script.shape v) (state_of self.old.states v) }
         ensures same { self.new ≡ self.old }
     {
-        self.states.tell();
+        self.states.facts();
         self.states.shape().write_hex(v, self.states.state(v), out);
     }
 

@@ -9,7 +9,7 @@ impl<O: Overlay> Runner<O> {
     ghost use Rattle.std.specs.Prelude.{◌≡◌, ◌<◌};
     ghost use Rattle.adversary_script.specs.Eras.{era_of, end_of_era};
 
-    /// The first configuration behind the era of `at`.
+    /// The first configuration after the era of `at`.
     pub fn era_end(&self) -> u64
         ensures value { result ≡ end_of_era self.now.script (era_of self.now.script self.now.at) }
         ensures behind { self.now.at < result }
@@ -40,7 +40,7 @@ impl Runner<NoOverlay> {
         ensures settled { result ≡ true → IsSettled self.old.plan
             (faulty_at self.old.script self.old.at) self.old.states }
     {
-        self.states.tell();
+        self.states.facts();
         let mut steps = Steps::<G>::new(blank);
         let shared = &mut self.room.shared;
         let faulty = self.script.era_faulty(self.era);
@@ -49,7 +49,7 @@ impl Runner<NoOverlay> {
     }
 
     /// Whether the configuration is settled, and its era is known to be locked. It is counted only
-    /// where the one before it was settled.
+    /// if the one before it was settled.
     fn is_settled(&mut self) -> bool
         ensures same { self.new ≡ self.old }
         ensures settled { result ≡ true → IsSettled self.old.plan
@@ -63,7 +63,7 @@ impl Runner<NoOverlay> {
         self.gather::<Brand>(Blank::new(1))
     }
 
-    /// Goes on towards configuration `end`, at least one round and not past it. Where the
+    /// Goes on towards configuration `end`, at least one round and not past it. If the
     /// configuration is settled, the rounds of its era cost no more than one: each field grows by
     /// the rounds between.
     pub fn skip(&mut self, end: u64)
@@ -77,7 +77,7 @@ impl Runner<NoOverlay> {
     {
         let to = end.min(self.era_end() - 1);
         if self.at() < to && self.is_settled() {
-            self.states.tell();
+            self.states.facts();
             grow(to - self.at, &mut self.room.out, &mut self.states);
             self.states.flip();
             self.at = to;

@@ -9,18 +9,19 @@ ghost use Rattle.state_codec.specs.Shapes.{fields_at};
 ghost use Rattle.state_codec.specs.Ranges.{InRange};
 ghost use Rattle.shared_board.specs.Sharing.{stands_for};
 ghost use Rattle.counter_core.specs.Meanings.{written};
-ghost use Rattle.counter_core.specs.Heeding.{HeedsOnly};
+ghost use Rattle.counter_core.specs.Heeding.{DependsOnlyOn};
 ghost use Rattle.counter_core.specs.Overlays.{after, layered};
 ghost use Rattle.counter_core.specs.Working.{IsFor};
 ghost use Rattle.adversary_script.specs.Eras.{faulty_at};
-ghost use Rattle.round_runner.specs.Hearing.{heard_from, HasRoom, AreLies};
+ghost use Rattle.machine_runner.specs.Hearing.{heard_from, HasRoom};
+ghost use Rattle.round_runner.specs.Hearing.{AreLies};
 ghost use Rattle.round_runner.specs.Laying.{IsEnough, IsLaid, IsLaidFor, IsSameOrTold};
 ghost use Rattle.round_runner.specs.Rooms.{IsReady};
-ghost use Rattle.round_runner.specs.Scenes.{layer_step, new_state};
+ghost use Rattle.layer_laws.specs.PlayedScenes.{layer_step, new_state};
 ghost use Rattle.round_runner.specs.Turns.{heard_in, IsGathered, IsSet};
 
-use crate::telling::{liars_in, tell};
-use crate::turns::{Round, Turn};
+use crate::telling::{fill_lies, liars_in};
+use crate::turns::{NodeStep, Round};
 use adversary_script::Noise;
 use counter_core::{Counter, Heard, Overlay, Work};
 use majority_votes::Steps;
@@ -31,10 +32,10 @@ use tower::Shared;
 
 /// What rounds need beside two configurations, made once.
 #[derive(Drop)]
-pub struct Room {
+pub struct RoundBuffers {
     /// The noise of the script.
     pub noise: Noise,
-    /// What a node hears, by place, where a layer hears it.
+    /// What a node hears, by place, if a layer hears it.
     pub heard: Vec<NodeState>,
     /// What the faulty nodes tell a node, in the order of their ids.
     pub lies: Vec<NodeState>,
@@ -47,7 +48,7 @@ pub struct Room {
 }
 
 /// The output of depth `depth` of node `v`, whose state has as many registers: the value of its
-/// register of that level, or 0 where that is infinite; without levels its number.
+/// register of that level, or 0 if that is infinite; without levels its number.
 pub fn shown_at(states: &Packed, v: u32, depth: usize) -> u64
     requires node { v < length states.now.current }
     requires depth { depth ≤ states.now.shape.depth }
@@ -74,12 +75,12 @@ fn hull(one: (usize, usize), other: (usize, usize)) -> (usize, usize)
     (one.0.min(other.0), one.1.max(other.1))
 }
 
-/// The counter's step of a turn, by what is shared and what the faulty nodes tell it: those that it
+/// The counter's step of a node, by what is shared and what the faulty nodes tell it: those that it
 /// heeds, and those of a stretch that its layer heeds.
 fn step_shared<G: Ledger>(
-    turn: &Turn<'_>,
+    turn: &NodeStep<'_>,
     layers: (usize, usize),
-    room: &mut Room,
+    room: &mut RoundBuffers,
     steps: &mut Steps<G>,
 )
     requires layers { layers.1
@@ -100,33 +101,14 @@ fn step_shared<G: Ledger>(
 {
     let tower = turn.round.tower;
     let liars = turn.round.faulty.len();
-    let stretch = hull(tower.heeded(turn.v, &room.shared), layers);
-    tell(turn, stretch, &mut room.noise, &mut room.lies);
+    let stretch = hull(tower.relevant_liars(turn.v, &room.shared), layers);
+    fill_lies(turn, stretch, &mut room.noise, &mut room.lies);
     let lies = &room.lies[..liars];
-    tower.advance_shared(
-        turn.v,
-        turn.states,
-        lies,
-        &mut room.shared,
-        &mut room.out,
-        steps,
-    );
+    tower.advance_shared(turn.v, lies, &mut room.shared, &mut room.out, steps);
 }
 
-/// The counter's step of a turn where states are numbers alone.
-fn step_number(turn: &Turn<'_>, out: &mut NodeState)
-    requires { plan_depth turn.now.round.now.tower.now ≡ 0 }
-    ensures { (heard : List State)
-        → state_of heard turn.now.v ≡ state_of turn.now.states.now.current turn.now.v
-        → out.new ≡ written (plan_depth turn.now.round.now.tower.now)
-        (step_of turn.now.round.now.tower.now turn.now.v heard) out.old }
-{
-    turn.states.tell();
-    out.set_x(turn.round.tower.next_number(turn.states.x(turn.v)));
-}
-
-/// Where the node of a turn is faulty, lays its own state into its place among what is heard.
-fn lay_itself(turn: &Turn<'_>, heard: &mut [NodeState])
+/// If the node is faulty, lays its own state into its place among what is heard.
+fn lay_itself(turn: &NodeStep<'_>, heard: &mut [NodeState])
     requires room { HasRoom turn.now.round.now.script.now heard.old }
     requires laid { IsLaid turn.now.round.now.script.now turn.now.round.now.t
         turn.now.states.now.current heard.old }
@@ -135,7 +117,7 @@ fn lay_itself(turn: &Turn<'_>, heard: &mut [NodeState])
         turn.now.states.now.current heard.new }
     ensures own { state_of heard.new turn.now.v ≡ state_of turn.now.states.now.current turn.now.v }
 {
-    turn.states.tell();
+    turn.states.facts();
     if turn.round.faulty.contains(turn.v) {
         turn.states.old(turn.v, &mut heard[turn.v as usize]);
     }
@@ -154,15 +136,15 @@ fn lay_lies(round: &Round<'_>, stretch: (usize, usize), lies: &[NodeState], hear
 {
     let faulty = round.faulty;
     let _liars = liars_in(round);
-    faulty.tell();
+    faulty.facts();
     for j in stretch.0..stretch.1 {
         heard[faulty.at(j) as usize].copy_from(&lies[j]);
     }
 }
 
-/// The faulty nodes on whose lies the layer's step of a turn hangs, as a stretch of their places.
-/// Where the layer has registers, the node's own state is laid for it.
-fn heed<O: Overlay>(turn: &Turn<'_>, overlay: &O, room: &mut Room) -> (usize, usize)
+/// The faulty nodes on whose lies the layer's step depends, as a stretch of their places. If the
+/// layer has registers, the node's own state is laid for it.
+fn heed<O: Overlay>(turn: &NodeStep<'_>, overlay: &O, room: &mut RoundBuffers) -> (usize, usize)
     requires { IsGathered turn.now.round.now (O.layer overlay.now) turn.now.states.now room.old }
     ensures within { result.1
         ≤ length (faulty_at turn.now.round.now.script.now turn.now.round.now.t) }
@@ -170,7 +152,7 @@ fn heed<O: Overlay>(turn: &Turn<'_>, overlay: &O, room: &mut Room) -> (usize, us
     ensures same { room.new ≡ record room.old { heard = room.new.heard } }
     ensures laid { 0 < (O.layer overlay.now).extra → IsLaidFor turn.now.round.now turn.now.v
         turn.now.states.now.current room.new.heard.items }
-    ensures enough { 0 < (O.layer overlay.now).extra → HeedsOnly (after (O.layer overlay.now)
+    ensures enough { 0 < (O.layer overlay.now).extra → DependsOnlyOn (after (O.layer overlay.now)
         (O.kept overlay.now) turn.now.v ((plan_meaning turn.now.round.now.tower.now).shows
         turn.now.v (state_of turn.now.states.now.current turn.now.v)))
         (faulty_at turn.now.round.now.script.now turn.now.round.now.t) turn.now.v
@@ -179,16 +161,16 @@ fn heed<O: Overlay>(turn: &Turn<'_>, overlay: &O, room: &mut Room) -> (usize, us
     if overlay.extra() == 0 {
         return (0, 0);
     }
-    turn.states.tell();
-    turn.round.tell();
+    turn.states.facts();
+    turn.round.facts();
     lay_itself(turn, &mut room.heard);
     let output = shown_at(turn.states, turn.v, turn.round.tower.depth());
-    overlay.heeded(turn.v, output, &Heard::of(&room.heard), turn.round.faulty)
+    overlay.relevant_liars(turn.v, output, &Heard::of(&room.heard), turn.round.faulty)
 }
 
-/// The layer's step of a turn, behind that of the counter, which stands in `out`. Where the layer
-/// has registers, what is laid for it is enough.
-fn step_layer<O: Overlay>(turn: &Turn<'_>, overlay: &mut O, room: &mut Room)
+/// The layer's step, after that of the counter, which stands in `out`. If the layer has registers,
+/// what is laid for it is enough.
+fn step_layer<O: Overlay>(turn: &NodeStep<'_>, overlay: &mut O, room: &mut RoundBuffers)
     requires set { IsSet turn.now.round.now (O.layer overlay.old) turn.now.states.now room.old }
     requires enough { 0 < (O.layer overlay.old).extra → IsEnough turn.now.round.now
         (O.layer overlay.old) (O.kept overlay.old) turn.now.v turn.now.states.now.current
@@ -203,18 +185,18 @@ fn step_layer<O: Overlay>(turn: &Turn<'_>, overlay: &mut O, room: &mut Room)
     ensures work { IsFor turn.now.round.now.script.now.nodes room.new.work }
     ensures same { room.new ≡ record room.old { work = room.new.work; out = room.new.out } }
 {
-    turn.states.tell();
-    turn.round.tell();
+    turn.states.facts();
+    turn.round.facts();
     let output = shown_at(turn.states, turn.v, turn.round.tower.depth());
     let heard = Heard::of(&room.heard);
     overlay.advance(turn.v, output, &heard, &mut room.work, &mut room.out);
 }
 
-/// The step of a turn where states have registers, and behind it that of the layer above.
+/// The step of a node, and after it that of the layer above.
 pub fn step_with<O: Overlay, G: Ledger>(
-    turn: &Turn<'_>,
+    turn: &NodeStep<'_>,
     overlay: &mut O,
-    room: &mut Room,
+    room: &mut RoundBuffers,
     steps: &mut Steps<G>,
 )
     requires { IsGathered turn.now.round.now (O.layer overlay.old) turn.now.states.now room.old }
@@ -231,31 +213,10 @@ pub fn step_with<O: Overlay, G: Ledger>(
     ensures cost { steps.new ≤ steps.old + 3 * plan_depth turn.now.round.now.tower.now
         * length (faulty_at turn.now.round.now.script.now turn.now.round.now.t) }
 {
-    turn.states.tell();
-    turn.round.tell();
+    turn.states.facts();
+    turn.round.facts();
     let layers = heed(turn, overlay, room);
     step_shared(turn, layers, room, steps);
     lay_lies(turn.round, layers, &room.lies, &mut room.heard);
-    step_layer(turn, overlay, room);
-}
-
-/// The step of a turn where states are numbers alone, and behind it that of the layer above, which
-/// has no registers.
-pub fn step_alone<O: Overlay>(turn: &Turn<'_>, overlay: &mut O, room: &mut Room)
-    requires set { IsSet turn.now.round.now (O.layer overlay.old) turn.now.states.now room.old }
-    requires alone { turn.now.round.now.script.now.shape.depth ≡ 0 }
-    ensures out { room.new.out ≡ new_state (plan_meaning turn.now.round.now.tower.now)
-        (O.layer overlay.old) (O.kept overlay.old) turn.now.v (heard_in turn.now) }
-    ensures range { InRange (fields_at turn.now.round.now.script.now.shape turn.now.v)
-        room.new.out }
-    ensures layer { O.layer overlay.new ≡ O.layer overlay.old }
-    ensures kept { O.kept overlay.new ≡ slice_set (O.kept overlay.old) turn.now.v
-        (layer_step (plan_meaning turn.now.round.now.tower.now) (O.layer overlay.old)
-        (O.kept overlay.old) turn.now.v (heard_in turn.now)).kept }
-    ensures room { IsReady turn.now.round.now.tower.now turn.now.round.now.script.now room.new }
-{
-    turn.states.tell();
-    turn.round.tell();
-    step_number(turn, &mut room.out);
     step_layer(turn, overlay, room);
 }

@@ -2,9 +2,10 @@ ghost use Rattle.std.specs.Prelude.{◌≡◌, ◌<◌, ◌≤◌, ℕ, true, le
 ghost use Rattle.sync_types.specs.FaultSets.{is_in};
 ghost use Rattle.construction.specs.Steps.{state_of};
 ghost use Rattle.shared_board.specs.Sharing.{place_among};
-ghost use Rattle.round_runner.specs.Hearing.{heard_from, AreLies, AreOfNodes, TellsItself};
+ghost use Rattle.machine_runner.specs.Hearing.{heard_from};
+ghost use Rattle.round_runner.specs.Hearing.{AreLies, AreOfNodes, TellsItself};
 
-use crate::turns::{Round, Turn};
+use crate::turns::{NodeStep, Round};
 use adversary_script::Noise;
 use sync_types::{FaultSet, NodeState};
 
@@ -30,8 +31,8 @@ pub fn liars_in(round: &Round<'_>) -> usize
     round.faulty.len()
 }
 
-/// Where the node of a turn is faulty, puts its own state into its place.
-fn tell_itself(turn: &Turn<'_>, lies: &mut [NodeState])
+/// If the node is faulty, puts its own state into its place.
+fn tell_itself(turn: &NodeStep<'_>, lies: &mut [NodeState])
     requires { AreLies turn.now.round.now.script.now lies.old }
     ensures own { TellsItself turn.now.round.now.faulty.now.ids turn.now.v
         turn.now.states.now.current lies.new }
@@ -39,17 +40,22 @@ fn tell_itself(turn: &Turn<'_>, lies: &mut [NodeState])
 {
     let faulty = turn.round.faulty;
     let _liars = liars_in(turn.round);
-    faulty.tell();
-    turn.states.tell();
+    faulty.facts();
+    turn.states.facts();
     if faulty.contains(turn.v) {
         let own = place_of(faulty, turn.v);
         turn.states.old(turn.v, &mut lies[own]);
     }
 }
 
-/// Puts what the node of a turn hears of the faulty nodes from one place of their set to before
-/// another into these places of `lies`, and where it is faulty itself its own state into its place.
-pub fn tell(turn: &Turn<'_>, stretch: (usize, usize), noise: &mut Noise, lies: &mut [NodeState])
+/// Puts what the node hears of the faulty nodes from one place of their set to before another into
+/// these places of `lies`, and if it is faulty itself, its own state into its place.
+pub fn fill_lies(
+    turn: &NodeStep<'_>,
+    stretch: (usize, usize),
+    noise: &mut Noise,
+    lies: &mut [NodeState],
+)
     requires noise { noise.old ≡ turn.now.round.now.script.now.key }
     requires stretch { stretch.1 ≤ length turn.now.round.now.faulty.now.ids }
     requires lies { AreLies turn.now.round.now.script.now lies.old }
@@ -66,7 +72,7 @@ pub fn tell(turn: &Turn<'_>, stretch: (usize, usize), noise: &mut Noise, lies: &
     let faulty = round.faulty;
     let v = turn.v;
     let _liars = liars_in(round);
-    faulty.tell();
+    faulty.facts();
     tell_itself(turn, lies);
     for j in stretch.0..stretch.1 {
         let u = faulty.at(j);

@@ -2,7 +2,7 @@ ghost use Rattle.std.specs.Prelude.{◌≡◌, ◌+◌, ◌<◌, length};
 ghost use Rattle.construction.specs.Plans.{plan_nodes};
 ghost use Rattle.construction.specs.Runs.{IsBorne};
 ghost use Rattle.adversary_script.specs.Eras.{faulty_at};
-ghost use Rattle.round_runner.specs.Beginnings.{BeginsAt, is_prop};
+ghost use Rattle.machine_runner.specs.Beginnings.{BeginsAt, is_prop};
 ghost use Rattle.round_runner.specs.Fits.{TakesStates, takes_prop};
 
 use adversary_script::Script;
@@ -11,7 +11,7 @@ use state_codec::Packed;
 use sync_types::FaultSet;
 use tower::Tower;
 
-/// A round of a script on the counter of its plan, which bears the script's faulty nodes.
+/// A round of a script on the counter of its plan, which tolerates the script's faulty nodes.
 #[derive(Clone, Copy, Drop)]
 pub struct Round<'a> {
     /// The counter.
@@ -22,7 +22,7 @@ pub struct Round<'a> {
     pub faulty: &'a FaultSet,
     /// Its number.
     pub t: u64,
-    /// The further era that begins behind it, where one does.
+    /// The further era that begins after it, if one does.
     pub begins: Option<usize>,
     ghost nodes: { script.now.nodes ≡ plan_nodes tower.now },
     ghost borne: { IsBorne tower.now (faulty_at script.now t) },
@@ -37,7 +37,7 @@ impl Round<'_> {
     ghost use Rattle.round_runner.specs.Turns.{IsRound};
 
     /// Tells a caller's proof what holds of each round. It does nothing when it runs.
-    pub fn tell(&self)
+    pub fn facts(&self)
         ensures { IsRound self.now }
     {
         self.tower.tell();
@@ -47,7 +47,7 @@ impl Round<'_> {
 
 /// A node that steps in a round, from a configuration of the script's nodes.
 #[derive(Clone, Copy, Drop)]
-pub struct Turn<'a> {
+pub struct NodeStep<'a> {
     /// The round.
     pub round: &'a Round<'a>,
     /// The configuration.

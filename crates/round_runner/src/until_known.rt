@@ -8,10 +8,9 @@ impl Runner<NoOverlay> {
     ghost use Rattle.round_runner.specs.Runners.{IsPlaying, configuration_of};
     ghost use Rattle.round_runner.specs.Skipping.{IsSkipped};
 
-    /// Goes on until the first locked configuration of each era
-    /// [is known](Runner::knows_locks), and no further: to the first locked configuration of the
-    /// last era, or to the last one where none of that era is. Before the last era it
-    /// [skips](Runner::skip_to) what it can.
+    /// Goes on until the first locked configuration of each era [is known](Runner::knows_locks),
+    /// and no further: to the first locked configuration of the last era, or to the last one if
+    /// none of that era is. Before the last era it [skips](Runner::skip_to) what it can.
     pub fn play_until_known(&mut self)
         ensures skipped { IsSkipped self.old self.new.at self.new }
         ensures knows { KnowsLocks self.new }

@@ -208,7 +208,7 @@ stopped_answer text at e r all =
       stops front [] e here = tt
       stops front (line ∷ lines) e here = stops_at front line lines at here e
 
--- something stands behind the last line
+-- something stands after the last line
 more_answer : (text : List ℕ) (found : Found Verdict) → Taken unread 0 (whole_lines text) found
     → checked text ≡ Err (found.taken + 1) → IsRefusedAt text (found.taken + 1)
 more_answer text found r all = record {

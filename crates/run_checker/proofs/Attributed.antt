@@ -8,7 +8,7 @@ use Rattle.construction.specs.Plans.{Plan, plan_nodes, plan_depth}
 use Rattle.construction.specs.Runs.{is_in, heard_by}
 use Rattle.construction.specs.Steps.{step_of}
 use Rattle.run_checker.specs.Grammar.{pairs_of}
-use Rattle.run_checker.specs.Stated.{Told, told_of, lies_table, stepped}
+use Rattle.run_checker.specs.Stated.{Message, told_of, lies_table, stepped}
 use Rattle.run_checker.specs.Checking.{attributed}
 use Rattle.run_checker.specs.Rounds.{told_for, told_table, stepped_all}
 
@@ -18,7 +18,7 @@ same_map f g same [] = refl
 same_map f g same (x ∷ xs) = ap₂ (λ y ys. y ∷ ys) (same x) (same_map f g same xs)
 
 module _ (plan : Plan) where
-  abbrev told_to : ℕ × ℕ → State → Told
+  abbrev told_to : ℕ × ℕ → State → Message
   told_to pair state = record { sender = pair.0; receiver = pair.1; state = state }
 
   told_same : (pairs : List (ℕ × ℕ)) (states : List State) (u v : ℕ)
@@ -32,9 +32,9 @@ module _ (plan : Plan) where
             → told_of plan (map (λ (pair, state). told_to pair state) (zip pairs states)) u v
             ≡ told_for (plan_depth plan) pairs states u v
             → unwrap_or
-            (option_map (λ (t : Told). t.state)
+            (option_map (λ (t : Message). t.state)
             (cond b (Some (told_to p s))
-            (find (λ (t : Told). eqb t.sender u && eqb t.receiver v)
+            (find (λ (t : Message). eqb t.sender u && eqb t.receiver v)
             (map (λ (pair, state). told_to pair state) (zip pairs states)))))
             (zero_state (plan_depth plan))
             ≡ cond b s (told_for (plan_depth plan) pairs states u v)
@@ -57,7 +57,7 @@ module _ (plan : Plan) where
       (range_with_len 0 (plan_nodes plan)))
       (range_with_len 0 (plan_nodes plan))
 
-  -- the configuration behind a round is the stated one
+  -- the configuration after a round is the stated one
   pub stepped_is : (faulty new : List ℕ) (config : List State) (pairs : List (ℕ × ℕ))
       (states : List State)
       → pairs ≡ pairs_of (plan_nodes plan) faulty

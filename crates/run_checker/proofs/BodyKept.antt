@@ -1,4 +1,4 @@
--- What is kept of a certificate's configuration holds behind each line.
+-- What is kept of a certificate's configuration holds after each line.
 use Rattle.std.proofs.Common.{◌≡◌, ℕ, zero, suc, ◌+◌, ◌-◌, ◌<◌, ◌≤◌, Bool, true, false, cond, not}
 use Rattle.std.proofs.Common.{◌&&◌, List, [], ◌∷◌, ◌++◌, length, map, replicate, All, drop, eqb}
 use Rattle.std.proofs.Common.{get_or, refl, sym, ap, ◌∙◌, subst, arith}
@@ -64,7 +64,7 @@ module _ (plan : Plan) (accepted : IsAccepted plan) where
     range = All-push (IsInRange plan) states s h.range range;
   }
 
-  -- a state more was told, or not
+  -- another state was told, or not
   pub record IsKeptTold (old new : Telling) : Type 0 where
     pub pairs : new.pairs ≡ old.pairs
     pub kept : new.shape ≡ old.shape
@@ -107,7 +107,7 @@ module _ (plan : Plan) (accepted : IsAccepted plan) where
   no_states =
       record { deep = λ k d lt. absurd (omega arith); range = λ k d lt. absurd (omega arith) }
 
--- where no state is known, all are zero
+-- if no state is known, all are zero
 same_both : (b : Bool) (s : State) → s ≡ cond b s s
 same_both true s = refl
 same_both false s = refl
@@ -143,7 +143,7 @@ none_are plan = record {
   range = λ k d lt. absurd (omega (arith, lt));
 }
 
--- a round is left where all of one was told
+-- a round is left if all of one was told
 pub round_left : (at m n : ℕ) → (nat_lt at 1000000 && eqb m n) ≡ true → at + 1 ≤ 1000000
 round_left at m n e =
     let lt = ltb-true at 1000000 (and_parts (nat_lt at 1000000) (eqb m n) e).0 in
@@ -152,7 +152,7 @@ round_left at m n e =
 told_whole : (b : Bool) (m n : ℕ) → (b && eqb m n) ≡ true → m ≡ n
 told_whole b m n e = eqb-true m n (and_parts b (eqb m n) e).1
 
--- where all of a round was told, it may be played
+-- if all of a round was told, it may be played
 pub told_of : (plan : Plan) (faulty : FaultIds) (told : Telling) → faulty.nodes ≡ plan_nodes plan
     → AreStates plan told.states → told.shape ≡ shape_of plan → (b : Bool)
     → (b && eqb (length told.states) (length (pairs_of (plan_nodes plan) faulty.ids))) ≡ true
@@ -206,7 +206,7 @@ next_below n u v (suc k) (p ∷ pairs) h e =
 
 -- ---- eras
 
--- an era more may begin where an empty set is left
+-- another era may begin if an empty set is left
 pub some_left : (most left : ℕ) → left ≤ most → not (eqb left 0) ≡ nat_lt (most - left) most
 some_left most zero le = sym (le-ltb (most - 0) most (omega arith))
 some_left most (suc left) le =

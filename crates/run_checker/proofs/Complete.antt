@@ -55,7 +55,7 @@ abbrev pub all_lies : Known → List State → List Lie → List State
 all_lies k told [] = told
 all_lies k told (lie ∷ lies) = all_lies k (told ++ lie_state k lie ∷ []) lies
 
--- what stands behind the lies of a round
+-- what stands after the lies of a round
 abbrev pub BehindPass : Known → (told : List State) → Option Era → List (Option ℕ) → Type 0
 BehindPass k told None row = next_row_fits k told (k.at + 1) row ≡ true
 BehindPass k told (Some era) row =

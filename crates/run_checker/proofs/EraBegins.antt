@@ -1,6 +1,6 @@
--- The faulty nodes behind a round, by whether an era begins there.
+-- The faulty nodes after a round, by whether an era begins there.
 use Rattle.std.proofs.Common.{ap, Option, inl, inr, ◌⊎◌, ⊎_elim, ◌≡◌, ℕ, zero, suc, ◌+◌, ◌<◌, ◌≤◌}
-use Rattle.std.proofs.Common.{Bool, true, false, cond, eqb, leb, List, [], ◌∷◌, length, map, get_or}
+use Rattle.std.proofs.Common.{Bool, true, false, cond, eqb, leb, List, [], ◌∷◌, map, get_or}
 use Rattle.std.proofs.Common.{Some, None, find, refl, sym, subst, ◌∙◌, arith}
 use Rattle.std.specs.List.{count_by}
 use Rattle.std.specs.List.Sorted.{IsStrictlyIncreasing}
@@ -36,28 +36,6 @@ none_begun t f (g ∷ gs) h lt =
     ∙ rw (lt-leb f t lt)
     (omega (arith, none_begun t g gs (tail_rises f (g ∷ gs) h) (omega arith)))
 
-first_least : (f : ℕ) (fs : List ℕ) (j : ℕ) → IsStrictlyIncreasing (f ∷ fs) → j ≤ length fs
-    → f ≤ get_or (f ∷ fs) j 0
-first_least f fs zero h le = omega arith
-first_least f [] (suc j) h le = absurd (omega arith)
-first_least f (g ∷ gs) (suc j) h le =
-    let next : f < g = h 0 (omega arith) in
-    let rest : g
-    ≤ get_or (g ∷ gs) j 0 = first_least g gs j (tail_rises f (g ∷ gs) h) (omega arith) in
-    omega arith
-
-pub count_is : (a : ℕ) (fs : List ℕ) (t j : ℕ) → IsStrictlyIncreasing (a ∷ fs) → j ≤ length fs
-    → get_or (a ∷ fs) j 0 ≤ t → (j < length fs → t < get_or fs j 0) → begun t fs ≡ j
-count_is a [] t j h le low high = omega arith
-count_is a (f ∷ fs) t zero h le low high =
-    none_begun t f fs (tail_rises a (f ∷ fs) h) (high (omega arith))
-count_is a (f ∷ fs) t (suc j) h le low high =
-    let rises = tail_rises a (f ∷ fs) h in
-    let here : f ≤ t = let l = first_least f fs j rises (omega arith) in omega (arith, low) in
-    let rest : begun t fs
-    ≡ j = count_is f fs t j rises (omega arith) low (λ lt. high (omega arith)) in
-    begun_more t f fs ∙ rw (le-leb f t here) (omega arith)
-
 mark : ℕ → ℕ → ℕ
 mark t f = cond (leb f t) 1 0
 
@@ -80,7 +58,7 @@ more_begun t [] = omega arith
 more_begun t (f ∷ fs) =
     omega (arith, begun_marks t f fs, begun_marks (t + 1) f fs, mark_more t f, more_begun t fs)
 
--- where as many have begun as one configuration before, none begins
+-- if as many have begun as one configuration before, none begins
 
 mark_other : (t f : ℕ) → eqb f (t + 1) ≡ false → mark (t + 1) f ≡ mark t f
 unfolding mark
@@ -170,7 +148,7 @@ found_more true t f fs e more =
 found_more false t f fs e more =
     omega (arith, more refl, begun_marks t f fs, begun_marks (t + 1) f fs, mark_more t f)
 
--- where an era begins one more has begun
+-- if an era begins, one more has begun
 pub begins_more : (t : ℕ) (eras : List Era) (era : Era) → find (first_is (t + 1)) eras ≡ Some era
     → begun t (firsts_of eras) + 1 ≤ begun (t + 1) (firsts_of eras)
 begins_more t [] era e = absurd cc

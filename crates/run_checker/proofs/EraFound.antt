@@ -1,17 +1,10 @@
--- Where an era begins, one is found, and else none.
-use Rattle.std.proofs.Common.{◌≡◌, ℕ, zero, suc, ◌+◌, ◌<◌, Bool, true, false, cond, eqb, List, []}
-use Rattle.std.proofs.Common.{◌∷◌, ◌++◌, length, map, get_or, Some, None, find, Result, refl, sym}
-use Rattle.std.proofs.Common.{◌∙◌, append-nil, arith}
+-- If an era begins, one is found, and else none.
+use Rattle.std.proofs.Common.{◌≡◌, ℕ, zero, suc, ◌<◌, Bool, true, false, cond, eqb, List, []}
+use Rattle.std.proofs.Common.{◌∷◌, length, map, get_or, Some, None, find, refl, sym}
+use Rattle.std.proofs.Common.{◌∙◌, arith}
 use Rattle.std.proofs.lemmas.Bool.{eqb-true, eq-eqb, true≢false}
 use Rattle.adversary_script.specs.Scripts.{Era, Script}
-use Rattle.sync_types.specs.States.{State}
-use Rattle.construction.specs.Plans.{Plan}
-use Rattle.texts.specs.Growth.{Told, Wrote, Cut, Puts}
-use Rattle.texts.proofs.Growth.{wrote_none, cut_more, puts_then}
-use Rattle.adversary_script.specs.Eras.{faulty_at}
-use Rattle.round_runner.specs.Beginnings.{BeginsAt}
-use Rattle.run_checker.specs.Recorded.{era_at}
-use Rattle.run_checker.specs.RunLines.{era_text, starts_text, era_lines}
+use Rattle.machine_runner.specs.Beginnings.{BeginsAt}
 
 abbrev first_is : ℕ → Era → Bool
 first_is x era = eqb era.first x
@@ -56,28 +49,3 @@ pub begins_none : (s : Script) (x : ℕ) → BeginsAt s x None
     → find (λ era. eqb era.first x) s.eras ≡ None
 begins_none s x none =
     no_era x s.eras (λ i lt is. none (suc i) (omega arith) (omega (arith, lt)) is)
-
--- ---- the lines of an era, where one begins
-
-module _ (plan : Plan) (s : Script) (t : ℕ) (config : List State) where
-  pub era_none : (told : Told) → BeginsAt s (t + 1) None
-      → Wrote (era_lines plan s t config (era_at plan s (t + 1))) told told
-  era_none told none = rw (begins_none s (t + 1) none) (wrote_none told)
-
-  module _ (j : ℕ) (begins : BeginsAt s (t + 1) (Some j)) (old mid : Told) where
-    pub era_cut : Cut (era_text (t + 1) (faulty_at s (t + 1))) old mid
-        → Cut (era_lines plan s t config (era_at plan s (t + 1))) old mid
-    era_cut cut =
-        rw (begins_some s (t + 1) j begins).1
-        (cut_more old mid (era_text (t + 1) (faulty_at s (t + 1)))
-        (starts_text plan s t config ++ []) cut)
-
-    pub era_put : {T E : Type 0} (r : Result T E) (now : Told)
-        → Wrote (era_text (t + 1) (faulty_at s (t + 1))) old mid
-        → Puts r (starts_text plan s t config) mid now
-        → Puts r (era_lines plan s t config (era_at plan s (t + 1))) old now
-    era_put r now wrote puts =
-        rw (begins_some s (t + 1) j begins).1
-        (puts_then r old mid now (era_text (t + 1) (faulty_at s (t + 1)))
-        (starts_text plan s t config ++ []) wrote
-        (rw (append-nil (starts_text plan s t config)) puts))

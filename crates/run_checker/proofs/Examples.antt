@@ -61,7 +61,11 @@ hit = record {
   faulty = [];
   starts = put 0 (codes "00") ∷ [];
   row = Some 0 ∷ [];
-  turns = quiet (Some 1 ∷ []) ∷ record { lies = []; era = Some (record { faulty = []; starts = put 0 (codes "80") ∷ [] }); row = Some 4 ∷ [] } ∷ quiet (Some 0 ∷ []) ∷ [];
+  turns = quiet (Some 1 ∷ []) ∷ record {
+    lies = [];
+    era = Some (record { faulty = []; starts = put 0 (codes "80") ∷ [] });
+    row = Some 4 ∷ [];
+  } ∷ quiet (Some 0 ∷ []) ∷ [];
 }
 
 hit_text : certificate_text hit ≡ codes "run 2\nbase 5\nfaulty\nstart 0 00\nrow 0 0\nrow 1 1\nera 2\nstart 0 80\nrow 2 4\nrow 3 0\nend\n"
@@ -96,7 +100,11 @@ hit_once = record {
   key = replicate 32 0;
   common = common.Zero;
   starts = [];
-  eras = record { first = 2; faulty = []; starts = record { node = 0; state = record { x = 4; registers = [] } } ∷ [] } ∷ [];
+  eras = record {
+    first = 2;
+    faulty = [];
+    starts = record { node = 0; state = record { x = 4; registers = [] } } ∷ [];
+  } ∷ [];
   groups = [];
   lies = [];
   rounds = 3;
@@ -105,10 +113,11 @@ hit_once = record {
 }
 
 recorded : certificate_text (certificate_of one_node hit_once) ≡ codes "run 2\nbase 5\nfaulty\nstart 0 00\nrow 0 0\nrow 1 1\nera 2\nstart 0 80\nrow 2 4\nrow 3 0\nend\n"
-unfolding digits width moduli_of registers_bits bits encode_with bits_of_registers bytes_of_bits start_of lie_of number_of
+unfolding digits width moduli_of registers_bits bits encode_with bits_of_registers bytes_of_bits
+    start_of lie_of number_of
 recorded = refl
 
--- ---- spares: a node's digits are of its own length, and version 3 says how many spares a level has
+-- ---- spares: a node's digits are of its own length, and version 3 says the spares of a level
 
 one_spare : checked (codes "run 3\nbase 576\nlevel 3 1 10 spare 1\nfaulty\nstart 0 0000\nstart 1 0000\nstart 2 0000\nstart 3 70\nrow 0 0 0 0 7\nrow 1 1 1 1 0\nrow 2 2 2 2 2\nrow 3 3 3 3 3\nend\n") ≡ Ok (verdict.True 4 (Some 3))
 unfolding width moduli_of registers_bits registers_from number_of decode_pairs bits

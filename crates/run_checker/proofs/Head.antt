@@ -58,7 +58,7 @@ planned_of version base levels =
 abbrev base_plan : (version base : ℕ) → Plan
 base_plan version base = planned_of version base []
 
--- ---- spares are said just where the version says them
+-- ---- spares are said exactly if the version says them
 
 said_by : (three : Bool) (spares : ℕ) → (cond {A = ℕ} three 2 1 ≡ 1 → spares ≡ 0)
     → unwrap_or (if three then Some spares else None) 0 ≡ spares
@@ -175,7 +175,7 @@ certificate_read c is =
 
 -- ---- and back
 
--- behind the base line: further levels from the lowest up, and all that follows
+-- after the base line: further levels from the lowest up, and all that follows
 record ReadPlan (version base : ℕ) (below : List Level) (items : List Item) (v : Verdict) : Type 0
   where
     levels : List Level

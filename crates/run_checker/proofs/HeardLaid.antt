@@ -1,4 +1,4 @@
--- The list in which it is laid what a node hears of the faulty ones.
+-- The list in which what a node hears of the faulty ones is laid.
 use Rattle.std.proofs.Common.{◌≡◌, ℕ, ◌+◌, ◌*◌, ◌<◌, ◌≤◌, inl, inr, Bool, true, false, cond, List}
 use Rattle.std.proofs.Common.{length, set, get_or, All, refl, sym, ap, ◌∙◌, subst, arith}
 use Rattle.std.specs.Prelude.{slice_index}
@@ -15,9 +15,9 @@ use Rattle.plan_laws.specs.PlanMeaning.{IsInRange}
 use Rattle.shared_board.specs.Sharing.{place_among}
 use Rattle.shared_board.proofs.Ids.{place_of_id}
 use Rattle.round_runner.specs.Locks.{correct_nodes}
-use Rattle.round_runner.proofs.Heard.{is_among}
+use Rattle.machine_runner.proofs.Heard.{is_among}
 use Rattle.round_runner.proofs.Own.{same_place}
-use Rattle.round_runner.proofs.Places.{within, all_places}
+use Rattle.machine_runner.proofs.Places.{within, all_places}
 use Rattle.run_checker.specs.Grammar.{pairs_of}
 use Rattle.run_checker.specs.Rounds.{told_for, AreStates}
 use Rattle.run_checker.specs.Hearing.{heard_from, Lays, LaysHeard}
@@ -50,7 +50,7 @@ module _ (from : ℕ) (put : ℕ → State) (old : List State) where
         (λ (e : k ≡ j). omega (arith, le, e)) ∙ h.behind k (omega (arith, le));
   }
 
-  -- what stands behind has its depth
+  -- what stands after has its depth
   pub deep_at : (j : ℕ) (now : List State) (depth : ℕ) → Lays from j put old now
       → j < length old → All (λ s. length s.registers ≡ depth) old → (d : State)
       → length (get_or now j d).registers ≡ depth
@@ -157,7 +157,7 @@ module _ (plan : Plan) (ids : List ℕ) (told config : List State) (v : ℕ) whe
           };
         }
 
-    -- a correct node hears what it is told
+    -- a correct node hears what it is given
     pub correct_heard : (correct before : ℕ) → v < plan_nodes plan → is_in ids v ≡ false
         → Lays from to (λ j. state_of told (j * correct + before)) old mid
         → correct ≡ length (correct_nodes (plan_nodes plan) ids)

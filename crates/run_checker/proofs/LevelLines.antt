@@ -1,16 +1,14 @@
 -- The lines that state the levels, one after the other.
-use Rattle.std.proofs.Common.{◌≡◌, ℕ, ◌+◌, ◌<◌, ◌≤◌, List, [], ◌∷◌, ◌++◌, length, take, map}
+use Rattle.std.proofs.Common.{◌≡◌, ℕ, ◌+◌, ◌<◌, List, [], ◌∷◌, ◌++◌, length, take, map}
 use Rattle.std.proofs.Common.{reverse, get_or, Some, refl, sym, ap, ◌∙◌, arith}
 use Rattle.std.specs.List.{slice_get, flat_map}
-use Rattle.std.proofs.lemmas.List.{take_all, map-append, length-map, length-reverse, get_or-map}
+use Rattle.std.proofs.lemmas.List.{map-append, length-map, get_or-map}
 use Rattle.std.proofs.lemmas.Grind.{reverse_onto}
 use Rattle.std.proofs.lemmas.Option.{get_or_from_slice_get, slice_get_within}
-use Rattle.texts.specs.Growth.{Told, Wrote, Cut}
-use Rattle.texts.proofs.Growth.{wrote_at, cut_at}
-use Rattle.construction.specs.Plans.{Level, Plan, plan_depth}
+use Rattle.construction.specs.Plans.{Level, Plan}
 use Rattle.plan_numbers.specs.declared.numbers.LevelNums.{LevelNums}
 use Rattle.plan_numbers.specs.Numbers.{level_of, numbers_of, numbers_over, below_of, level_numbers}
-use Rattle.run_checker.specs.RunLines.{level_line, level_lines}
+use Rattle.run_checker.specs.RunLines.{level_line}
 
 -- the levels that have the numbers of these, the lowest first
 levels_are : (base : ℕ) (levels : List Level)
@@ -26,40 +24,18 @@ levels_are base (level ∷ below) =
 abbrev pub first_texts : (version : ℕ) → Plan → ℕ → List ℕ
 first_texts version plan i = flat_map (level_line version) (take i (reverse plan.levels))
 
-module _ (plan : Plan) (version i : ℕ) (nums : LevelNums)
+module _ (plan : Plan) (i : ℕ) (nums : LevelNums)
     (at : slice_get (level_numbers plan) i ≡ Some nums) where
   inside : i < length (level_numbers plan)
   inside = slice_get_within (level_numbers plan) i nums at
 
-  within : i < length (reverse plan.levels)
+  pub within : i < length (reverse plan.levels)
   within =
       let same = ap length (levels_are plan.base plan.levels) in
       omega (arith, inside, length-map (level_numbers plan) level_of, same)
 
-  here : get_or (reverse plan.levels) i (level_of nums) ≡ level_of nums
+  pub here : get_or (reverse plan.levels) i (level_of nums) ≡ level_of nums
   here =
       ap (λ ls. get_or ls i (level_of nums)) (sym (levels_are plan.base plan.levels))
       ∙ get_or-map level_of (level_numbers plan) i nums (level_of nums) inside
       ∙ ap level_of (get_or_from_slice_get (level_numbers plan) i nums nums at)
-
-  -- one more line is written
-  pub wrote_level : (s t u : Told) → Wrote (first_texts version plan i) s t
-      → Wrote (level_line version (level_of nums)) t u
-      → Wrote (first_texts version plan (i + 1)) s u
-  wrote_level s t u before line =
-      wrote_at (level_line version) (reverse plan.levels) i (level_of nums) s t u within before
-      (rw here line)
-
-  -- a line is cut
-  pub cut_level : (s t u : Told) → Wrote (first_texts version plan i) s t
-      → Cut (level_line version (level_of nums)) t u → Cut (level_lines version plan.levels) s u
-  cut_level s t u before line =
-      cut_at (level_line version) (reverse plan.levels) i (level_of nums) s t u within before
-      (rw here line)
-
--- all lines are written
-pub wrote_levels : (plan : Plan) (version i : ℕ) (s t : Told) → plan_depth plan ≤ i
-    → Wrote (first_texts version plan i) s t → Wrote (level_lines version plan.levels) s t
-wrote_levels plan version i s t all wrote =
-    let most : length (reverse plan.levels) ≤ i = omega (arith, length-reverse plan.levels) in
-    rw (← take_all i (reverse plan.levels) most) wrote

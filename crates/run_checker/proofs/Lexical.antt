@@ -14,7 +14,7 @@ use Rattle.std.proofs.Common.{codes, bytes_eq, option_map}
 use Rattle.texts.specs.Shapes.{onto_numbers}
 use Rattle.std.proofs.lemmas.Option.{same_Some}
 use Rattle.std.proofs.lemmas.Slice.Eq.{bytes_eq-Decides}
-use Rattle.adversary_script.specs.WordTests.{numbers_in}
+use Rattle.texts.specs.Shapes.{all_numbers}
 use Rattle.std.proofs.lemmas.List.Elements.{All-head, All-tail}
 use Rattle.run_checker.specs.Items.{Item, run_item, base_item, level_item, faulty_item}
 use Rattle.run_checker.specs.Items.{start_item, row_item, lie_item, era_item, end_item}
@@ -83,7 +83,7 @@ item_is_words (lie_item u v digits) h =
 item_is_words (era_item t ids) h = (refl, (decimal_word t h.0, numbers_words ids h.1))
 item_is_words end_item h = (refl, tt)
 
-numbers_there : (ns : List ℕ) → All IsShort ns → numbers_in (map decimal ns) ≡ Some ns
+numbers_there : (ns : List ℕ) → All IsShort ns → all_numbers (map decimal ns) ≡ Some ns
 numbers_there [] h = refl
 numbers_there (n ∷ ns) h =
     rw (number_there n (All-head IsShort n ns h), numbers_there ns (All-tail IsShort n ns h)) refl
@@ -158,12 +158,12 @@ onto_parts None b ns e = absurd cc
 onto_parts (Some n) None ns e = absurd cc
 onto_parts (Some n) (Some ms) ns e = (n, ms, refl, refl, cc)
 
-numbers_back : (ws : List (List ℕ)) (ns : List ℕ) → numbers_in ws ≡ Some ns
+numbers_back : (ws : List (List ℕ)) (ns : List ℕ) → all_numbers ws ≡ Some ns
     → (map decimal ns ≡ ws) × All IsShort ns
 numbers_back [] [] e = (refl, All-nil IsShort)
 numbers_back [] (n ∷ ns) e = absurd cc
 numbers_back (w ∷ ws) ns e =
-    let (n, ms, a, b, c) = onto_parts (number_of w) (numbers_in ws) ns e in
+    let (n, ms, a, b, c) = onto_parts (number_of w) (all_numbers ws) ns e in
     let x = number_back w n a in
     let y = numbers_back ws ms b in (
       ap (map decimal) (sym c) ∙ ap (λ v. v ∷ map decimal ms) x.0
@@ -230,7 +230,7 @@ base_back words item e =
     (record
     { is = ap (λ v. codes "base" ∷ v ∷ []) b ∙ ap (λ l. codes "base" ∷ l) (sym a); words = c })
 
--- three numbers behind the key, or four with a word before the last
+-- three numbers after the key, or four with a word before the last
 spare_back : (a b c key w : List ℕ) (item : Item)
     → level_said (a ∷ b ∷ c ∷ key ∷ w ∷ []) ≡ Some item
     → Says item (codes "level" ∷ a ∷ b ∷ c ∷ key ∷ w ∷ [])
@@ -326,8 +326,8 @@ row_back (a ∷ ws) item e = by (number_of a) (values_said ws) refl refl e where
 era_back : (words : List (List ℕ)) (item : Item) → era_said words ≡ Some item
     → Says item (codes "era" ∷ words)
 era_back [] item e = absurd cc
-era_back (a ∷ ws) item e = by (number_of a) (numbers_in ws) refl refl e where
-  by : (x : Option ℕ) (y : Option (List ℕ)) → number_of a ≡ x → numbers_in ws ≡ y
+era_back (a ∷ ws) item e = by (number_of a) (all_numbers ws) refl refl e where
+  by : (x : Option ℕ) (y : Option (List ℕ)) → number_of a ≡ x → all_numbers ws ≡ y
       → era_by x y ≡ Some item → Says item (codes "era" ∷ a ∷ ws)
   by None y p q h = absurd cc
   by (Some x) None p q h = absurd cc
@@ -337,9 +337,9 @@ era_back (a ∷ ws) item e = by (number_of a) (numbers_in ws) refl refl e where
       (record { is = rw (i.0, j.0) refl; words = (i.1, j.1) })
 
 faulty_back : (words : List (List ℕ)) (item : Item)
-    → option_map faulty_item (numbers_in words) ≡ Some item → Says item (codes "faulty" ∷ words)
-faulty_back ws item e = by (numbers_in ws) refl e where
-  by : (y : Option (List ℕ)) → numbers_in ws ≡ y → option_map faulty_item y ≡ Some item
+    → option_map faulty_item (all_numbers words) ≡ Some item → Says item (codes "faulty" ∷ words)
+faulty_back ws item e = by (all_numbers ws) refl e where
+  by : (y : Option (List ℕ)) → all_numbers ws ≡ y → option_map faulty_item y ≡ Some item
       → Says item (codes "faulty" ∷ ws)
   by None q h = absurd cc
   by (Some y) q h =
@@ -353,7 +353,7 @@ end_back [] item e =
     subst (λ i. Says i (codes "end" ∷ [])) (same_Some _ _ e) (record { is = refl; words = tt })
 end_back (w ∷ ws) item e = absurd cc
 
--- a key, where the words behind it say the item
+-- a key, if the words after it say the item
 keyed : (key k : List ℕ) (words : List (List ℕ)) (item : Item) → bytes_eq key k ≡ true
     → Says item (k ∷ words) → Says item (key ∷ words)
 keyed key k words item e h =

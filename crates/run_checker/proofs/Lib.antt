@@ -30,7 +30,6 @@ mod BodySteps
 mod Decoded
 mod EraFound
 mod HeardLaid
-mod HeardSteps
 mod LevelLines
 mod LineTexts
 mod LinesRead
@@ -51,4 +50,3 @@ mod StatesRead
 mod ToldPlaces
 mod TrueTexts
 mod Unlimited
-mod WordsBefore

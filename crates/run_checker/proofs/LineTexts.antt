@@ -17,7 +17,7 @@ use Rattle.run_checker.specs.Certificates.{level_of}
 use Rattle.run_checker.specs.RunLines.{number_word, version_line, base_line, level_line, node_word}
 use Rattle.run_checker.specs.RunLines.{row_text, faulty_text, era_text}
 
--- words, each with a space in front, to the end of a line
+-- words, each after a space, to the end of a line
 abbrev pub spaced : List (List ℕ) → List ℕ
 spaced [] = 10 ∷ []
 spaced (w ∷ ws) = 32 ∷ (w ++ spaced ws)
@@ -102,7 +102,7 @@ faulty_is ids =
     ap (λ l. codes "faulty" ++ l) (ids_spaced ids)
     ∙ sym (line_text (codes "faulty") (map decimal ids))
 
--- a key and a number in front of more
+-- a key and a number before more
 numbered : (key : List ℕ) (t : ℕ) (more : List ℕ)
     → (key ++ (decimal t ++ [])) ++ more ≡ key ++ (decimal t ++ more)
 numbered key t more =

@@ -1,7 +1,7 @@
 -- A line that was read where it stood in the buffer of a feed.
-use Rattle.std.proofs.Common.{◌≡◌, ℕ, zero, suc, ◌+◌, ◌<◌, ◌≤◌, Bool, true, false, cond, List, []}
-use Rattle.std.proofs.Common.{◌∷◌, ◌++◌, length, take, get_or, Option, None, refl, sym, ap, ◌∙◌}
-use Rattle.std.proofs.Common.{subst, arith}
+use Rattle.std.proofs.Common.{◌≡◌, ℕ, ◌+◌, ◌≤◌, Bool, true, false, cond, List}
+use Rattle.std.proofs.Common.{length, Option, None, refl, sym}
+use Rattle.std.proofs.Common.{subst}
 use Rattle.std.specs.Prelude.{nat_le}
 use Rattle.std.proofs.lemmas.Bool.{leb-true}
 use Rattle.texts.specs.EndedTexts.{with_length}
@@ -29,18 +29,6 @@ pub short_line : (stage next : Stage) (line : List ℕ) → line_step stage line
     → length line ≤ 4096
 short_line stage next line e = short_by stage next line (nat_le (length line) 4096) refl e
 
--- the front of bytes, with the byte behind it
-front_by : (n : ℕ) (bytes : List ℕ) (b : ℕ) → n < length bytes → b ≡ get_or bytes n b
-    → take (suc n) bytes ≡ take n bytes ++ b ∷ []
-front_by n [] b lt is = absurd (omega (arith, lt))
-front_by zero (c ∷ bytes) b lt is = ap (λ x. x ∷ []) (sym is)
-front_by (suc n) (c ∷ bytes) b lt is = ap (λ xs. c ∷ xs) (front_by n bytes b (omega (arith, lt)) is)
-
-pub front_is : (n : ℕ) (bytes : List ℕ) (b : ℕ) → n < length bytes → b ≡ get_or bytes n b
-    → take (n + 1) bytes ≡ take n bytes ++ b ∷ []
-front_is n bytes b lt is =
-    let more : n + 1 ≡ suc n = omega arith in ap (λ m. take m bytes) more ∙ front_by n bytes b lt is
-
 module _ {S : Type 0} (left : S → Option (List ℕ)) (start : Stage) (limit : ℕ)
     (old : Option (List ℕ)) where
   -- so many lines were read
@@ -49,7 +37,7 @@ module _ {S : Type 0} (left : S → Option (List ℕ)) (start : Stage) (limit : 
       × Standing full tt start 1 limit 0 old (feed_left left feed) stage number lines
       feed.line_bytes
 
-  -- where nothing changed they are those
+  -- if nothing changed, they are those
   pub reads_still : (now new : Feed S) (stage next : Stage) (number : ℕ)
       → (new ≡ now) × (next ≡ stage) → Reads now stage number → Reads new next number
   reads_still now new stage next number (same, still) h =

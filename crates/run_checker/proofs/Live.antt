@@ -109,7 +109,7 @@ end_after_row k =
       lines = All-cons HasLine end_item [] end_line (All-nil HasLine);
     }
 
--- where some states were told, there is a round, and no more than all were
+-- if some states were told, there is a round, and no more than all were
 pub end_in_round : (k : Known) (told : List State) → IsAlive k → has_round k ≡ true
     → length told ≤ length (pairs_of (plan_nodes k.plan) k.stand.faulty) → Ends (telling k told)
 end_in_round k told alive round few =

@@ -12,7 +12,7 @@ use Rattle.run_checker.specs.declared.Verdict.{Verdict}
 use Rattle.run_checker.specs.Checking.{Stage, Onward, unread, line_step}
 use Rattle.run_checker.specs.Checks.{checked_by}
 
--- a part of lines, and what is left of the limit behind it
+-- a part of lines, and what is left of the limit after it
 abbrev Part : Type 0
 Part = Result (Found (Option ℕ × Verdict)) (At (Limited (Unit {0})))
 
@@ -56,7 +56,7 @@ module _ (line : List ℕ) (lines : List (List ℕ)) (taken number : ℕ) where
     | refuses r ↦ Err (record { line = number; rule = r })
   ]
 
-  -- the lines behind grow
+  -- the lines after it grow
   abbrev Behind : (m l : ℕ) → Type 0
   Behind m l = (t : Stage)
       → Grows (part_within m t (taken + 1) (number + 1) lines)
@@ -89,7 +89,7 @@ part_grows (line ∷ lines) s taken number m l le =
     (λ t. part_grows lines t (taken + 1) (number + 1) (m - line_cost line) (l - line_cost line)
     (omega (arith, le)))
 
--- ---- behind the last line
+-- ---- after the last line
 
 -- the answer that a line is refused
 abbrev refused_at : (number : ℕ) → Result Verdict (At (Limited (Unit {0})))

@@ -1,4 +1,4 @@
--- Ids that are read one after the other, where each may follow those before it.
+-- Ids that are read one after the other, each of which may follow those before it.
 use Rattle.std.proofs.Common.{◌≡◌, ℕ, suc, ◌-◌, ◌<◌, inl, inr, Bool, true, false, cond, ◌&&◌, ◌||◌}
 use Rattle.std.proofs.Common.{eqb, List, [], ◌∷◌, ◌++◌, length, get_or, nat_lt, nat_le, Option}
 use Rattle.std.proofs.Common.{Some, None, refl, sym, ap, ◌∙◌, subst, append_assoc, arith}
@@ -6,14 +6,14 @@ use Rattle.std.proofs.Common.{length-append}
 use Rattle.std.specs.Prelude.{slice_index}
 use Rattle.std.proofs.lemmas.Bool.{cases_eq, eq-eqb, ne_eqb, and_parts, and_from, lt-ltb, ltb-true}
 use Rattle.std.proofs.lemmas.Bool.{leb-true, le-leb, true≢false}
-use Rattle.std.proofs.lemmas.List.{append-nil}
 use Rattle.std.proofs.lemmas.List.Folds.{list_all-append}
 use Rattle.std.proofs.Math.ListN.{get_or-append}
 use Rattle.std.proofs.Math.Seq.{get_or-append_seam}
 use Rattle.texts.specs.Numbers.{number_of}
 use Rattle.texts.specs.Shapes.{onto_numbers}
 use Rattle.texts.proofs.Shapes.{with_front}
-use Rattle.adversary_script.specs.WordTests.{are_below, is_rising, numbers_in}
+use Rattle.adversary_script.specs.WordTests.{are_below, is_rising}
+use Rattle.texts.specs.Shapes.{all_numbers}
 use Rattle.adversary_script.proofs.RisingIds.{id_below, rises_at}
 use Rattle.run_checker.specs.Sets.{is_borne_by, borne_ids, is_above, may_follow}
 
@@ -71,7 +71,7 @@ module _ (nodes faults : ℕ) where
       (rising_more ids id both.1 (follower_above nodes faults ids id may)))
       (le-leb _ _ (omega (arith, long, follower_few nodes faults ids id may)))
 
-  -- ---- and where an id may not follow they are not
+  -- ---- and if an id may not follow they are not
 
   above_of : (n last id : ℕ) → (0 < n → last < id) → (eqb n 0 || nat_lt last id) ≡ true
   above_of n last id lt = elim (cases_eq n 0) [
@@ -108,15 +108,11 @@ module _ (nodes faults : ℕ) where
 
   module _ (said : Option (List ℕ)) (ids : List ℕ) where
     pub word_read : (words rest : List (List ℕ)) (word : List ℕ) (id : ℕ)
-        → said ≡ with_front ids (numbers_in words) → words ≡ word ∷ rest → number_of word ≡ Some id
-        → said ≡ with_front ids (onto_numbers (Some id) (numbers_in rest))
+        → said ≡ with_front ids (all_numbers words) → words ≡ word ∷ rest → number_of word ≡ Some id
+        → said ≡ with_front ids (onto_numbers (Some id) (all_numbers rest))
     word_read words rest word id is more number =
-        is ∙ ap (λ (ws : List (List ℕ)). with_front ids (numbers_in ws)) more
-        ∙ ap (λ (o : Option ℕ). with_front ids (onto_numbers o (numbers_in rest))) number
-
-    pub no_number : (rest : Option (List ℕ)) → said ≡ with_front ids (onto_numbers None rest)
-        → borne_ids nodes faults said ≡ None
-    no_number rest is = ap (borne_ids nodes faults) is
+        is ∙ ap (λ (ws : List (List ℕ)). with_front ids (all_numbers ws)) more
+        ∙ ap (λ (o : Option ℕ). with_front ids (onto_numbers o (all_numbers rest))) number
 
     pub no_follower : (id : ℕ) (rest : Option (List ℕ))
         → said ≡ with_front ids (onto_numbers (Some id) rest)
@@ -135,9 +131,3 @@ module _ (nodes faults : ℕ) where
           ≡ with_front (ids ++ id ∷ []) rest
       moved id None = refl
       moved id (Some ns) = ap Some (sym (append_assoc ids (id ∷ []) ns))
-
-    pub all_read : said ≡ with_front ids (Some []) → is_borne_by nodes faults ids ≡ true
-        → borne_ids nodes faults said ≡ Some ids
-    all_read is borne =
-        ap (borne_ids nodes faults) (is ∙ ap Some (append-nil ids))
-        ∙ ap (λ (b : Bool). cond b (Some ids) None) borne

@@ -25,7 +25,7 @@ use Rattle.run_checker.specs.Tellings.{Telling, IsTelling}
 use Rattle.run_checker.specs.NextLies.{lie_front, IsNextLine, TakesNext}
 use Rattle.run_checker.proofs.StatesRead.{length_told, told_view}
 
--- the front of a line and its digits are the line
+-- the beginning of a line and its digits are the line
 front_line : (pair : ℕ × ℕ) (digits : List ℕ)
     → lie_front pair ++ digits ≡ item_line (lie_item pair.0 pair.1 digits)
 front_line pair digits =
@@ -35,7 +35,7 @@ front_line pair digits =
     (append_assoc u (32 ∷ (v ++ 32 ∷ [])) digits
     ∙ ap (λ (l : List ℕ). u ++ 32 ∷ l) (append_assoc v (32 ∷ []) digits))
 
--- a line whose front is that of the pair at the place behind what was told is of the next pair
+-- a line that begins as that of the pair at the place after what was told is of the next pair
 module _ (shape : Shape) (pairs : List (ℕ × ℕ)) (texts : List (List ℕ)) (count : ℕ) {capacity : ℕ}
     (h : IsTelling shape pairs texts count capacity) where
   pub next_line : (pair : ℕ × ℕ) → count < length pairs → pair ≡ get_or pairs count pair
@@ -102,7 +102,7 @@ module _ (b : BodySeen) (accepted : IsAccepted b.known.plan)
       ∙ joined_is_one (item_words (lie_item pair.0 pair.1 digits))
       (item_is_words (lie_item pair.0 pair.1 digits) words)
 
-  -- where its digits are those of a state it is taken, and else nothing changes
+  -- if its digits are those of a state, it is taken, and else nothing changes
   pub takes_next : (new : BodySeen) (result : Bool) → Tells (next_sender b) digits b new result
       → TakesNext line (stage_of b) (stage_of new) result
   takes_next new true h =

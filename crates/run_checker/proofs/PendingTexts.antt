@@ -1,6 +1,5 @@
 -- Bytes that do not show what decides a text are the lines that begin a certificate, and a line
--- that
--- is open.
+-- that is open.
 use Rattle.std.proofs.Common.{◌≡◌, ℕ, ◌+◌, ◌^◌, ◌≤◌, Bool, false, List, [], ◌∷◌, length, Result, Ok}
 use Rattle.std.proofs.Common.{Err, refl, sym, ap, ◌∙◌, subst, length-append, arith}
 use Rattle.std.proofs.lemmas.Bool.{le-ltb}
@@ -66,7 +65,7 @@ module _ (text : List ℕ) where
         ap (λ (lines : List (List ℕ)). length (text_of lines)) (none_long at.rest none),
       )
 
-  -- bytes that do not show what decides are no more than a certificate has, and a line behind it
+  -- bytes that do not show what decides are no more than a certificate has, and a line after it
   pub pending_short : TextsAreChecked → (limit : ℕ) → Pending limit text
       → length text ≤ 2 ^ 44 + 4096
   pending_short checks limit pending =

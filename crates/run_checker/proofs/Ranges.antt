@@ -12,7 +12,7 @@ use Rattle.sync_types.specs.FaultSets.{is_in}
 use Rattle.round_runner.specs.Locks.{correct_nodes}
 use Rattle.run_checker.specs.Checking.{needs_state}
 
--- one id more
+-- one more id
 more_ids : (a n b : ℕ) → a + n ≡ b → range_with_len a (suc n) ≡ range_with_len a n ++ b ∷ []
 more_ids a zero b e = let same : a ≡ b = omega (arith, e) in ap (λ c. c ∷ []) same
 more_ids a (suc n) b e = ap (λ rest. a ∷ rest) (more_ids (a + 1) n b (omega (arith, e)))
@@ -41,13 +41,10 @@ module _ (unknown faulty : List ℕ) where
       let more : to - v ≡ suc (to - (v + 1)) = omega arith in
       ap (some_need v) more
 
-  pub none_needs : (v to : ℕ) → to ≤ v → needs_state unknown faulty v to ≡ false
-  none_needs v to le = let none : to - v ≡ 0 = omega arith in ap (some_need v) none
-
 -- ---- correct nodes
 
 module _ (faulty : List ℕ) where
-  -- one node more, which is correct or not
+  -- one more node, which is correct or not
   pub correct_more : (v : ℕ) → correct_nodes (v + 1) faulty
       ≡ correct_nodes v faulty ++ filter (λ u. not (is_in faulty u)) (v ∷ [])
   correct_more v =

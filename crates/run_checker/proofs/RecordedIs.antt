@@ -1,6 +1,6 @@
 -- What is recorded meets the grammar, but for the lengths of its lines.
 use Rattle.std.proofs.Common.{◌≡◌, ℕ, zero, suc, ◌+◌, ◌<◌, Bool, true, false, cond, eqb, not, ◌||◌}
-use Rattle.std.proofs.Common.{List, [], ◌∷◌, map, All, Option, Some, None, find, is_some, filter}
+use Rattle.std.proofs.Common.{List, [], ◌∷◌, map, Option, Some, None, find, is_some, filter}
 use Rattle.std.proofs.Common.{refl, sym, ap, subst, ◌∙◌, arith}
 use Rattle.std.specs.Prelude.{IfSome}
 use Rattle.std.specs.List.{range_with_len}
@@ -23,18 +23,13 @@ use Rattle.adversary_script.specs.Eras.{faulty_of_era, faulty_at}
 use Rattle.round_runner.specs.Laws.{IsReadFor}
 use Rattle.run_checker.proofs.EraBegins.{same_begun, found_faulty}
 use Rattle.run_checker.proofs.PlayedStates.{borne_at}
+use Rattle.run_checker.proofs.Live.{below_range}
 use Rattle.run_checker.specs.Certificates.{Put, Lie}
 use Rattle.run_checker.specs.Grammar.{pairs_of, AreStarts, IsRow, IsEra, IsTurn, AreTurns}
 use Rattle.run_checker.specs.Grammar.{faulty_behind}
-use Rattle.run_checker.specs.Stated.{Stand, shown_row}
+use Rattle.run_checker.specs.Stated.{Snapshot, shown_row}
 use Rattle.run_checker.specs.Recorded.{stand_at, put_at, lie_at, is_put, era_with, turn_at}
 use Rattle.run_checker.proofs.RecordedTellings.{is_in_filter, is_in_range}
-
-below_range : (n : ℕ) → All (λ v. v < n) (range_with_len 0 n)
-below_range n =
-    λ i d l. let is = get_or-range_with_len 0 n i d
-    (subst (λ m. i < m) (length-range_with_len 0 n) l) in
-    omega (arith, is, l, length-range_with_len 0 n)
 
 rising_range : (n : ℕ) → IsStrictlyIncreasing (range_with_len 0 n)
 rising_range n =
@@ -50,7 +45,7 @@ module _ (plan : Plan) (s : Script) (is : IsReadFor plan s) where
   mark true o = refl
   mark false o = refl
 
-  marks : (x : Stand) (vs : List ℕ)
+  marks : (x : Snapshot) (vs : List ℕ)
       → map is_some
       (map
       (λ v. cond (is_in x.faulty v) None
@@ -69,14 +64,14 @@ module _ (plan : Plan) (s : Script) (is : IsReadFor plan s) where
       (mark (is_in x.faulty v) (shown (plan_depth plan) (state_of x.config v)))
       ∙ ap (λ l. not (is_in x.faulty v) ∷ l) (marks x vs)
 
-  pub row_is : (x : Stand) → IsRow plan x.faulty (shown_row plan x)
+  pub row_is : (x : Snapshot) → IsRow plan x.faulty (shown_row plan x)
   row_is x = record { size = marks x (range_with_len 0 (plan_nodes plan)) }
 
   nodes_put : (t : ℕ) (vs : List ℕ) → map (λ (put : Put). put.node) (map (put_at plan s t) vs) ≡ vs
   nodes_put t [] = refl
   nodes_put t (v ∷ vs) = ap (λ l. v ∷ l) (nodes_put t vs)
 
-  -- states that are put where an era begins, or at first
+  -- states that are put when an era begins, or at first
   puts_are : (t : ℕ) (unknown : List ℕ) (p : ℕ → Bool)
       → ((v : ℕ) → p v ≡ true → is_in (faulty_at s t) v ≡ false)
       → ((v : ℕ) → is_in unknown v ≡ true → is_in (faulty_at s t) v ≡ false → p v ≡ true)
@@ -117,7 +112,7 @@ module _ (plan : Plan) (s : Script) (is : IsReadFor plan s) where
   pairs_told t [] = refl
   pairs_told t (p ∷ ps) = ap (λ l. p ∷ l) (pairs_told t ps)
 
-  -- the faulty nodes behind a round
+  -- the faulty nodes after a round
   faulty_next : (t : ℕ) (found : Option scripts.Era)
       → find (λ era. eqb era.first (t + 1)) s.eras ≡ found
       → faulty_behind (faulty_at s t) (era_with plan s t found) ≡ faulty_at s (t + 1)

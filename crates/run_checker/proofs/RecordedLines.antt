@@ -22,14 +22,14 @@ use Rattle.plan_numbers.proofs.Accepted.{meets, accepted_sized}
 use Rattle.std.specs.Int.{div_ceil}
 use Rattle.state_codec.specs.Shapes.{bits_in, bytes_in}
 use Rattle.state_codec.specs.Texts.{is_state_text, is_lower_digit}
-use Rattle.round_runner.proofs.Places.{each}
+use Rattle.machine_runner.proofs.Places.{each}
 use Rattle.run_checker.proofs.LiveLines.{few_bits}
 use Rattle.run_checker.specs.NodeFields.{fields_of}
 use Rattle.run_checker.specs.Items.{IsShort, HasLine, row_word, run_item, base_item}
 use Rattle.run_checker.specs.Items.{level_item, faulty_item, start_item, row_item, lie_item}
 use Rattle.run_checker.specs.Items.{era_item}
 use Rattle.run_checker.specs.Certificates.{spares_said, level_of}
-use Rattle.run_checker.specs.Stated.{Stand, shown_row}
+use Rattle.run_checker.specs.Stated.{Snapshot, shown_row}
 
 -- a number of a plan or a script
 abbrev pub IsSmall : ℕ → Type 0
@@ -286,7 +286,7 @@ module _ (plan : Plan) (accepted : IsAccepted plan) where
   shown_word true o h = tt
   shown_word false o h = h
 
-  pub shown_row_line : (t : ℕ) (x : Stand) → t ≤ 1000000 → IsConfiguration plan x.config
+  pub shown_row_line : (t : ℕ) (x : Snapshot) → t ≤ 1000000 → IsConfiguration plan x.config
       → HasLine (row_item t (shown_row plan x))
   shown_row_line t x le is =
       let word : ℕ

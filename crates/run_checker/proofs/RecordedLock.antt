@@ -22,7 +22,7 @@ use Rattle.round_runner.specs.Locks.{era_locked}
 use Rattle.round_runner.specs.Played.{played_at}
 use Rattle.run_checker.specs.declared.Verdict.TheVariants as verdict
 use Rattle.run_checker.specs.Certificates.{Turn}
-use Rattle.run_checker.specs.Stated.{Stand, stand_behind, stands_behind, first_stand, locks_at}
+use Rattle.run_checker.specs.Stated.{Snapshot, stand_behind, stands_behind, first_stand, locks_at}
 use Rattle.run_checker.specs.Stated.{verdict_by, verdict_of}
 use Rattle.run_checker.specs.Recorded.{stand_at, era_with, era_at, turn_at, certificate_of}
 use Rattle.run_checker.proofs.EraBegins.{begun, begun_more, same_begun, begins_more}
@@ -62,7 +62,7 @@ alike_in (level ∷ below) faulty a b same =
     (λ v. register_at (length below) (state_of b v))
     (below_range n) (λ v lt free. ap (register_at (length below)) (same v lt (not-true _ free))))
 
-locked_alike : (plan : Plan) (a b : Stand) → Agrees plan a b
+locked_alike : (plan : Plan) (a b : Snapshot) → Agrees plan a b
     → is_locked plan a.faulty a.config ≡ is_locked plan b.faulty b.config
 locked_alike plan a b agree =
     ap (λ f. is_locked plan f a.config) agree.faulty
@@ -128,13 +128,13 @@ module _ (plan : Plan) (s : Script) (is : IsReadFor plan s) where
   abbrev turns : (t k : ℕ) → List Turn
   turns t k = map (turn_at plan s) (range_with_len t k)
 
-  locks_on : (k t : ℕ) (x : Stand) → Agrees plan x (stand_at plan s t)
+  locks_on : (k t : ℕ) (x : Snapshot) → Agrees plan x (stand_at plan s t)
       → lock_over plan (known t) (t + 1) (turns t k) (stands_behind plan x (turns t k))
       ≡ known (t + k)
   locks_on zero t x agree = let same : t + 0 ≡ t = omega arith in ap known (sym same)
   locks_on (suc k) t x agree =
       let turn = turn_at plan s t in
-      let next : Stand = stand_behind plan x turn in
+      let next : Snapshot = stand_behind plan x turn in
       let agrees = agree_next plan s is t x agree in
       let rest = stands_behind plan next (turns (t + 1) k) in
       let step : first_of (cond (is_some turn.era) None (known t))

@@ -8,7 +8,7 @@ use Rattle.construction.specs.Plans.{Plan}
 use Rattle.adversary_script.specs.Scripts.{Script}
 use Rattle.round_runner.specs.Laws.{IsReadFor}
 use Rattle.run_checker.specs.Certificates.{Turn}
-use Rattle.run_checker.specs.Stated.{Stand, told_by, told_of, stand_behind, first_stand}
+use Rattle.run_checker.specs.Stated.{Snapshot, told_by, told_of, stand_behind, first_stand}
 use Rattle.run_checker.specs.Stated.{stands_behind, stated}
 use Rattle.run_checker.specs.Recorded.{stand_at, turn_at, certificate_of, RecordsAreOfRuns}
 use Rattle.run_checker.proofs.RecordedTellings.{Agrees}
@@ -19,20 +19,20 @@ module _ (plan : Plan) (s : Script) (is : IsReadFor plan s) where
   turns t k = map (turn_at plan s) (range_with_len t k)
 
   -- so many rounds after a stated configuration that agrees with the played one
-  agrees_on : (k t i : ℕ) (x d : Stand) → Agrees plan x (stand_at plan s t) → i ≤ k
+  agrees_on : (k t i : ℕ) (x d : Snapshot) → Agrees plan x (stand_at plan s t) → i ≤ k
       → Agrees plan (get_or (x ∷ stands_behind plan x (turns t k)) i d) (stand_at plan s (t + i))
   agrees_on k t zero x d agree le =
       let same : t ≡ t + 0 = omega arith in
       subst (λ u. Agrees plan x (stand_at plan s u)) same agree
   agrees_on zero t (suc i) x d agree le = absurd (omega arith)
   agrees_on (suc k) t (suc i) x d agree le =
-      let next : Stand = stand_behind plan x (turn_at plan s t) in
+      let next : Snapshot = stand_behind plan x (turn_at plan s t) in
       let same : t + 1 + i ≡ t + suc i = omega arith in
       subst (λ u. Agrees plan (get_or (next ∷ stands_behind plan next (turns (t + 1) k)) i d)
       (stand_at plan s u)) same
       (agrees_on k (t + 1) i next d (agree_next plan s is t x agree) (omega arith))
 
-  agrees_at : (t : ℕ) (d : Stand) → t ≤ s.rounds
+  agrees_at : (t : ℕ) (d : Snapshot) → t ≤ s.rounds
       → Agrees plan (get_or (stated (certificate_of plan s)) t d) (stand_at plan s t)
   agrees_at t d le =
       let same : 0 + t ≡ t = omega arith in

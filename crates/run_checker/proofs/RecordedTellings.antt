@@ -15,7 +15,7 @@ use Rattle.run_checker.specs.NodeFields.{fields_of}
 use Rattle.state_codec.specs.Texts.{read_text, written_text}
 use Rattle.round_runner.specs.Locks.{correct_nodes}
 use Rattle.run_checker.specs.Certificates.{Put}
-use Rattle.run_checker.specs.Stated.{Stand, Told, told_of}
+use Rattle.run_checker.specs.Stated.{Snapshot, Message, told_of}
 use Rattle.run_checker.specs.Stated.{with_starts}
 use Rattle.std.proofs.lemmas.List.Folds.{list_any_at}
 use Rattle.std.proofs.lemmas.List.FromFn.{length-range_with_len, get_or-range_with_len}
@@ -76,7 +76,7 @@ module _ (plan : Plan) (state : ℕ → State) where
 -- ---- what is told
 
 module _ (plan : Plan) (state : ℕ → ℕ → State) where
-  abbrev told_at : ℕ × ℕ → Told
+  abbrev told_at : ℕ × ℕ → Message
   told_at p = record { sender = p.0; receiver = p.1; state = state p.0 p.1 }
 
   abbrev is_pair : (u v : ℕ) → ℕ × ℕ → Bool
@@ -89,9 +89,9 @@ module _ (plan : Plan) (state : ℕ → ℕ → State) where
     by : (here : Bool) → is_pair u v p ≡ here → (here || list_any (is_pair u v) ps) ≡ true
         → (list_any (is_pair u v) ps ≡ true → told_of plan (map told_at ps) u v ≡ state u v)
         → unwrap_or
-        (option_map (λ (t : Told). t.state)
+        (option_map (λ (t : Message). t.state)
         (cond here (Some (told_at p))
-        (find (λ (t : Told). eqb t.sender u && eqb t.receiver v) (map told_at ps))))
+        (find (λ (t : Message). eqb t.sender u && eqb t.receiver v) (map told_at ps))))
         (zero_state (plan_depth plan))
         ≡ state u v
     by true is e more =
@@ -136,10 +136,10 @@ paired n faulty (w ∷ us) u v e correct =
     (eqb-true u w here) (any_of_row u v (correct_nodes n faulty) correct)))
     (λ more. inr (paired n faulty us u v more correct)) (or_cases _ _ e))
 
--- ---- one round more
+-- ---- one more round
 
 -- two configurations with the same faulty nodes, and the same states of correct ones
-pub record Agrees (plan : Plan) (a b : Stand) : Type 0 where
+pub record Agrees (plan : Plan) (a b : Snapshot) : Type 0 where
   pub faulty : a.faulty ≡ b.faulty
   pub size : length a.config ≡ plan_nodes plan
   pub same : (v : ℕ) → v < plan_nodes plan → is_in b.faulty v ≡ false

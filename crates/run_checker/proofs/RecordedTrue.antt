@@ -29,7 +29,7 @@ use Rattle.state_codec.proofs.Digits.{text_reads_back}
 use Rattle.round_runner.specs.Locks.{correct_nodes}
 use Rattle.run_checker.specs.Certificates.{Put}
 use Rattle.run_checker.specs.Grammar.{pairs_of, faulty_behind}
-use Rattle.run_checker.specs.Stated.{Stand, Told, told_by, told_of, lies_table, unless_faulty}
+use Rattle.run_checker.specs.Stated.{Snapshot, Message, told_by, told_of, lies_table, unless_faulty}
 use Rattle.run_checker.specs.Stated.{with_starts, starts_of, stepped, stand_behind}
 use Rattle.run_checker.specs.Stated.{stands_behind, first_stand, shown_row, same_rows}
 use Rattle.run_checker.specs.Stated.{differences, first_from, first_difference}
@@ -85,14 +85,14 @@ module _ (plan : Plan) (s : Script) (is : IsReadFor plan s) where
       ∙ lie_reads_back t u v (ids_below t u f)
 
   -- what v hears is the same
-  heard_same : (t v : ℕ) (x : Stand) → v < plan_nodes plan → Agrees plan x (stand_at plan s t)
+  heard_same : (t v : ℕ) (x : Snapshot) → v < plan_nodes plan → Agrees plan x (stand_at plan s t)
       → is_in (faulty_at s t) v ≡ false
       → heard_by (plan_nodes plan) x.faulty x.config
       (lies_table plan (map (told_by plan) (turn_at plan s t).lies)) v
       ≡ heard_at s t (played_at plan s t) v
   heard_same t v x vlt agree free =
       let n : ℕ = plan_nodes plan in
-      let told : List Told = map (told_by plan) (turn_at plan s t).lies in
+      let told : List Message = map (told_by plan) (turn_at plan s t).lies in
       same_lists _ _
       (length-map-range_with_len (heard_of x.faulty x.config (lies_table plan told) v) 0 n
       ∙ sym
@@ -153,7 +153,7 @@ module _ (plan : Plan) (s : Script) (is : IsReadFor plan s) where
             ∙ get_or-map-range_with_len (λ v. lie_of s t u v (played_at plan s t)) 0 s.nodes v v
             (zero_state 0) (omega (arith, is.right.nodes)) (omega arith))
 
-  -- ---- the configuration behind a round
+  -- ---- the configuration after a round
 
   played_next : (t v : ℕ) → v < plan_nodes plan
       → state_of (played_at plan s (t + 1)) v
@@ -164,7 +164,7 @@ module _ (plan : Plan) (s : Script) (is : IsReadFor plan s) where
       (λ u. unwrap_or (hit_at s (t + 1) u) (step_of plan u (heard_at s t (played_at plan s t) u)))
       0 s.nodes v v (zero_state 0) (omega (arith, is.right.nodes)) (omega arith))
 
-  stepped_at : (t v : ℕ) (new : List ℕ) (x : Stand) → v < plan_nodes plan
+  stepped_at : (t v : ℕ) (new : List ℕ) (x : Snapshot) → v < plan_nodes plan
       → Agrees plan x (stand_at plan s t) → is_in new v ≡ false → is_in (faulty_at s t) v ≡ false
       → state_of (stepped plan new x (map (told_by plan) (turn_at plan s t).lies)) v
       ≡ step_of plan v (heard_at s t (played_at plan s t) v)
@@ -183,7 +183,7 @@ module _ (plan : Plan) (s : Script) (is : IsReadFor plan s) where
       free
       ∙ ap (step_of plan v) (heard_same t v x lt agree before)
 
-  length-stepped : (new : List ℕ) (x : Stand) (told : List Told)
+  length-stepped : (new : List ℕ) (x : Snapshot) (told : List Message)
       → length (stepped plan new x told) ≡ plan_nodes plan
   length-stepped new x told =
       length-map-range_with_len
@@ -207,7 +207,7 @@ module _ (plan : Plan) (s : Script) (is : IsReadFor plan s) where
   no_state None x e = refl
   no_state (Some y) x e = absurd cc
 
-  agree_by : (t : ℕ) (x : Stand) (found : Option scripts.Era)
+  agree_by : (t : ℕ) (x : Snapshot) (found : Option scripts.Era)
       → find (λ era. eqb era.first (t + 1)) s.eras ≡ found → Agrees plan x (stand_at plan s t)
       → Agrees plan
       (record {
@@ -265,7 +265,7 @@ module _ (plan : Plan) (s : Script) (is : IsReadFor plan s) where
         and_true true = refl
         and_true false = refl
 
-        put_or_not : (t : ℕ) (x : Stand) (v : ℕ) → v < plan_nodes plan
+        put_or_not : (t : ℕ) (x : Snapshot) (v : ℕ) → v < plan_nodes plan
             → Agrees plan x (stand_at plan s t) → (new : List ℕ)
             → is_in (faulty_at s (t + 1)) v ≡ false → is_in new v ≡ false → (listed put : Bool)
             → listed ≡ put → is_put plan s t v ≡ put
@@ -286,7 +286,7 @@ module _ (plan : Plan) (s : Script) (is : IsReadFor plan s) where
             ∙ no_state (hit_at s (t + 1) v)
             (step_of plan v (heard_at s t (played_at plan s t) v)) none.1)
 
-  pub agree_next : (t : ℕ) (x : Stand) → Agrees plan x (stand_at plan s t)
+  pub agree_next : (t : ℕ) (x : Snapshot) → Agrees plan x (stand_at plan s t)
       → Agrees plan (stand_behind plan x (turn_at plan s t)) (stand_at plan s (t + 1))
   agree_next t x agree = agree_by t x (find (λ era. eqb era.first (t + 1)) s.eras) refl agree
 
@@ -328,9 +328,9 @@ module _ (plan : Plan) (s : Script) (is : IsReadFor plan s) where
     by false h = ap (λ x. Some (shown (plan_depth plan) x)) (h refl)
 
   -- configurations that agree show one row
-  row_same : (a b : Stand) → Agrees plan a b → shown_row plan b ≡ shown_row plan a
+  row_same : (a b : Snapshot) → Agrees plan a b → shown_row plan b ≡ shown_row plan a
   row_same a b agree =
-      let word : Stand → ℕ
+      let word : Snapshot → ℕ
       → Option ℕ = λ x v. cond (is_in x.faulty v) None
       (Some (shown (plan_depth plan) (state_of x.config v))) in
       sym
@@ -352,7 +352,7 @@ module _ (plan : Plan) (s : Script) (is : IsReadFor plan s) where
   same_rows_self (None ∷ row) = same_rows_self row
   same_rows_self (Some a ∷ row) = and_from _ _ (eq-eqb a a refl) (same_rows_self row)
 
-  same_here : (a b : Stand) → Agrees plan a b
+  same_here : (a b : Snapshot) → Agrees plan a b
       → not (same_rows (shown_row plan b) (shown_row plan a)) ≡ false
   same_here a b agree =
       ap not
@@ -360,7 +360,7 @@ module _ (plan : Plan) (s : Script) (is : IsReadFor plan s) where
       ∙ same_rows_self (shown_row plan a))
 
   -- no row differs
-  none_differ : (k t n : ℕ) (x : Stand) → Agrees plan x (stand_at plan s t)
+  none_differ : (k t n : ℕ) (x : Snapshot) → Agrees plan x (stand_at plan s t)
       → first_from (λ b. b) n
       (differences plan (map (λ turn. turn.row) (map (turn_at plan s) (range_with_len t k)))
       (stands_behind plan x (map (turn_at plan s) (range_with_len t k))))

@@ -20,7 +20,7 @@ use Rattle.adversary_script.specs.Scripts.{Script}
 use Rattle.adversary_script.specs.Eras.{era_of, faulty_at}
 use Rattle.round_runner.specs.Laws.{IsReadFor}
 use Rattle.round_runner.specs.Locks.{correct_nodes}
-use Rattle.round_runner.proofs.Firsts.{era_within}
+use Rattle.machine_runner.proofs.Firsts.{era_within}
 use Rattle.run_checker.specs.NodeFields.{fields_of}
 use Rattle.run_checker.specs.Items.{HasLine, run_item, base_item, faulty_item, era_item}
 use Rattle.run_checker.specs.Items.{end_item, row_item}
@@ -32,7 +32,8 @@ use Rattle.run_checker.specs.Recorded.{HasItsEras, RecordsAreTrue, stand_at, put
 use Rattle.run_checker.specs.Recorded.{is_put, puts_at, era_with, era_at, turn_at}
 use Rattle.run_checker.specs.Recorded.{certificate_of}
 use Rattle.run_checker.proofs.EraBegins.{same_begun, begins_more, found_faulty}
-use Rattle.run_checker.proofs.PlayedStates.{played_is, borne_at}
+use Rattle.round_runner.proofs.EraRuns.{played_is}
+use Rattle.run_checker.proofs.PlayedStates.{borne_at}
 use Rattle.run_checker.proofs.Live.{AreIds, pairs_are_ids, below_range}
 use Rattle.run_checker.proofs.RecordedIs.{first_starts, row_is, turns_are}
 use Rattle.run_checker.proofs.RecordedLines.{run_line, base_line, levels_lines, faulty_line}

@@ -1,11 +1,14 @@
 -- What is written of a script while a runner plays it.
-use Rattle.std.proofs.Common.{◌≡◌, ℕ, ◌+◌, ◌<◌, ◌≤◌, Bool, true, false, cond, List, [], ◌++◌}
-use Rattle.std.proofs.Common.{append-nil, Result, refl, sym, ap, ap₂, ◌∙◌, subst, arith}
-use Rattle.std.specs.Prelude.{OnErr, OnOk, Ok, Err}
+use Rattle.std.proofs.Common.{◌≡◌, ℕ, ◌+◌, ◌<◌, ◌≤◌, Bool, true, false, cond, List, []}
+use Rattle.std.proofs.Common.{Result, Ok, Err, refl, sym, ap, ap₂, ◌∙◌, subst, arith}
+use Rattle.std.specs.Prelude.{OnErr, OnOk}
+use Rattle.std.specs.List.{flat_map, range_with_len}
 use Rattle.sync_types.specs.FaultSets.{FaultIds}
 use Rattle.adversary_script.specs.Eras.{faulty_at}
-use Rattle.texts.specs.Growth.{Told, Wrote, Cut, Puts, gathering}
-use Rattle.texts.proofs.Growth.{wrote_none, puts_lent}
+use Rattle.texts.specs.Growth.{SinkState}
+use Rattle.edge_io.specs.declared.writer.Writer.{Writer}
+use Rattle.edge_io.specs.Writing.{Proceeds, Writes, Finishes}
+use Rattle.edge_io.proofs.Writing.{writes_none, writes_next, writes_stopped, writes_is}
 use Rattle.construction.specs.Plans.{Plan, plan_nodes}
 use Rattle.state_codec.specs.Shapes.{shape_of}
 use Rattle.counter_core.specs.declared.overlays.NoOverlay.{NoOverlay}
@@ -15,9 +18,8 @@ use Rattle.round_runner.specs.Runners.{Running}
 use Rattle.round_runner.proofs.Playing.{bare_is_played}
 use Rattle.run_checker.specs.RunLines.{turn_text, turns_text}
 use Rattle.run_checker.specs.Playing.{IsToRecord, StillPlays, HasPlayedOne, HasPlayedAll}
-use Rattle.run_checker.proofs.WordsBefore.{words_before, words_more, words_cut, words_all}
 
--- a runner that has played a round more still plays a script that was read for its plan
+-- a runner that has played one more round still plays a script that was read for its plan
 pub still_records : (old new : Running NoOverlay) → IsToRecord old → HasPlayedOne old new
     → IsToRecord new
 still_records old new h p = record {
@@ -29,37 +31,32 @@ still_records old new h p = record {
 
 -- ---- where a runner stops
 
+-- a writer that has not failed had not failed before
+unfailed_by : (before now : Bool) (text : List ℕ) (s t : SinkState)
+    → Proceeds before now text s t → now ≡ false → before ≡ false
+unfailed_by false now text s t p e = refl
+unfailed_by true true text s t p e = e
+unfailed_by true false text s t p e = absurd p
+
+pub unfailed_before : {K : Type 0} {told : K → SinkState} {text : List ℕ} {x y : Writer K}
+    → Writes told text x y → y.failed ≡ false → x.failed ≡ false
+unfailed_before {text = text} {x = x} {y = y} p e =
+    unfailed_by x.failed y.failed text _ _ p.so e
+
 pub on_err : {T E : Type 0} (P : Type 0) (r : Result T E) → P → OnErr r P
 on_err P (Ok x) p = tt
 on_err P (Err e) p = p
 
-pub on_ok : {T E : Type 0} (P : Type 0) (r : Result T E) → P → OnOk r P
-on_ok P (Ok x) p = p
-on_ok P (Err e) p = tt
+-- a run that ended without a fault was played
+pub ended_well : {K T E : Type 0} {told : K → SinkState} {y z : Writer K} (r : Result T E)
+    {P : Type 0} → Finishes told r y z → (y.failed ≡ false → P) → OnOk r P
+ended_well (Ok x) ends well = well (unfailed_before ends.rest ends.answer)
+ended_well (Err e) ends well = tt
 
--- a cut of a gathering sink is one of the sink that was lent to it
-abbrev one_fault : Result (Unit {0}) (Unit {0})
-one_fault = Err tt
-
-pub cut_lent : {K : Type 0} (told : K → Told) (lent other : ℕ) (held text : List ℕ) (s : Told)
-    (now final : K) → (lent ≡ other → final ≡ now)
-    → Cut text (gathering lent [] s) (gathering other held (told now)) → Cut text s (told final)
-cut_lent told lent other held text s now final ends cut =
-    puts_lent told one_fault lent other held text s now final ends cut tt
-
--- before the next round, and behind it
-pub stops_here : (old new : Running NoOverlay) → old.at ≤ old.script.rounds → IsToRecord old
-    → new ≡ old → StillPlays old new
-stops_here old new le h same = subst (StillPlays old) (sym same)
-    (record { plan = refl; script = refl; within = le; plays = h.plays })
-
-pub stops_behind : (old new now : Running NoOverlay) → old.at < old.script.rounds
-    → HasPlayedOne old new → now ≡ new → StillPlays old now
-stops_behind old new now lt one same =
-    let at = one.at in
-    subst (StillPlays old) (sym same)
-    (record
-    { plan = one.plan; script = one.script; within = omega (arith, lt, at); plays = one.plays })
+-- a round was played, whatever was written after it
+pub played_as : (old new now : Running NoOverlay) → now ≡ new → HasPlayedOne old new
+    → HasPlayedOne old now
+played_as old new now same one = subst (HasPlayedOne old) (sym same) one
 
 -- one that is where another was stops where that does
 pub stops_as : (old mid new : Running NoOverlay) → mid ≡ old → StillPlays mid new
@@ -71,73 +68,71 @@ pub ends_as : (old mid new : Running NoOverlay) → mid ≡ old → HasPlayedAll
 ends_as old mid new same ends = subst (λ (r : Running NoOverlay). HasPlayedAll r new) same ends
 
 -- the rounds before this one are written, by a runner of this plan and script that is at it
-pub record TurnsSoFar (plan : Plan) (script : Script) (t : ℕ) (r : Running NoOverlay)
-    (old now : Told) : Type 0 where
+pub record TurnsSoFar {K : Type 0} (told : K → SinkState) (plan : Plan) (script : Script) (t : ℕ)
+    (r : Running NoOverlay) (old now : Writer K) : Type 0 where
   pub plan_is : r.plan ≡ plan
   pub script_is : r.script ≡ script
   pub at : r.at ≡ t
   pub within : t ≤ script.rounds
   pub records : IsToRecord r
-  pub wrote : Wrote (words_before (turn_text plan script) script.rounds t) old now
+  pub wrote : Writes told (flat_map (turn_text plan script) (range_with_len 0 t)) old now
 
-pub turns_begin : (r : Running NoOverlay) (sink : Told) → r.at ≡ 0 → IsToRecord r
-    → TurnsSoFar r.plan r.script 0 r sink sink
-turns_begin r sink at h =
+pub turns_begin : {K : Type 0} {told : K → SinkState} {writer : Writer K} (r : Running NoOverlay)
+    → r.at ≡ 0 → IsToRecord r → TurnsSoFar told r.plan r.script 0 r writer writer
+turns_begin r at h =
     record {
       plan_is = refl;
       script_is = refl;
       at = at;
       within = omega arith;
       records = h;
-      wrote = wrote_none sink;
+      wrote = writes_none;
     }
 
-module _ (plan : Plan) (script : Script) (t : ℕ) (r : Running NoOverlay) (old mid : Told)
-    (so_far : TurnsSoFar plan script t r old mid) where
+module _ {K : Type 0} {told : K → SinkState} {plan : Plan} {script : Script} {t : ℕ}
+    {r : Running NoOverlay} {old mid : Writer K}
+    (so_far : TurnsSoFar told plan script t r old mid) where
   turn_is : turn_text r.plan r.script r.at ≡ turn_text plan script t
   turn_is =
       ap (λ (p : Plan). turn_text p r.script r.at) so_far.plan_is
       ∙ ap (λ (s : Script). turn_text plan s r.at) so_far.script_is
       ∙ ap (turn_text plan script) so_far.at
 
-  pub has_round : t < script.rounds → r.at < r.script.rounds
-  has_round lt = omega (arith, lt, so_far.at, ap (λ (s : Script). s.rounds) so_far.script_is)
-
-  pub turns_go_on : (new : Running NoOverlay) (now : Told) → t < script.rounds
-      → Wrote (turn_text r.plan r.script r.at) mid now → HasPlayedOne r new
-      → TurnsSoFar plan script (t + 1) new old now
-  turns_go_on new now lt wrote played = record {
+  pub turns_go_on : {new : Running NoOverlay} {now : Writer K} → t < script.rounds
+      → Writes told (turn_text r.plan r.script r.at) mid now → HasPlayedOne r new
+      → TurnsSoFar told plan script (t + 1) new old now
+  turns_go_on {new = new} lt wrote played = record {
     plan_is = played.plan ∙ so_far.plan_is;
     script_is = played.script ∙ so_far.script_is;
     at = played.at ∙ ap (λ (i : ℕ). i + 1) so_far.at;
     within = omega (arith, lt);
     records = still_records r new so_far.records played;
-    wrote = words_more (turn_text plan script) script.rounds t old mid now lt so_far.wrote
-        (subst (λ (text : List ℕ). Wrote text mid now) turn_is wrote);
+    wrote = writes_next (turn_text plan script) 0 t t so_far.wrote (writes_is turn_is wrote)
+        (omega arith);
   }
 
-  pub turns_cut : (now : Told) → t < script.rounds → Cut (turn_text r.plan r.script r.at) mid now
-      → Cut (turns_text plan script) old now
-  turns_cut now lt cut =
-      words_cut (turn_text plan script) script.rounds t old mid now lt so_far.wrote
-      (subst (λ (text : List ℕ). Cut text mid now) turn_is cut)
+  -- after a write that failed
+  pub turns_fail : mid.failed ≡ true → Writes told (turns_text plan script) old mid
+  turns_fail failed =
+      writes_stopped (turn_text plan script) 0 t script.rounds so_far.wrote failed so_far.within
+
+  pub turns_end : script.rounds ≤ t → Writes told (turns_text plan script) old mid
+  turns_end le =
+      let last : t ≡ script.rounds = omega (arith, le, so_far.within) in
+      writes_is (ap (λ (n : ℕ). flat_map (turn_text plan script) (range_with_len 0 n)) last)
+      so_far.wrote
 
   -- a runner that began with this plan and script
   module _ (began : Running NoOverlay) (plan_is : began.plan ≡ plan)
       (script_is : began.script ≡ script) where
-    pub turns_stopped : (new : Running NoOverlay) → StillPlays r new → StillPlays began new
-    turns_stopped new stops =
-        let within = stops.within in
+    pub turns_stopped : StillPlays began r
+    turns_stopped =
+        let rounds = ap (λ (s : Script). s.rounds) script_is in
         record {
-          plan = stops.plan ∙ so_far.plan_is ∙ sym plan_is;
-          script = stops.script ∙ so_far.script_is ∙ sym script_is;
-          within = omega (
-            arith,
-            within,
-            ap (λ (s : Script). s.rounds) so_far.script_is,
-            ap (λ (s : Script). s.rounds) script_is,
-          );
-          plays = stops.plays;
+          plan = so_far.plan_is ∙ sym plan_is;
+          script = so_far.script_is ∙ sym script_is;
+          within = omega (arith, so_far.at, so_far.within, rounds);
+          plays = so_far.records.plays;
         }
 
     pub turns_played : script.rounds ≤ t → HasPlayedAll began r
@@ -146,21 +141,13 @@ module _ (plan : Plan) (script : Script) (t : ℕ) (r : Running NoOverlay) (old 
         let last : r.at
         ≡ began.script.rounds = omega (arith, le, so_far.at, so_far.within, rounds) in
         record {
-          still = record {
-            plan = so_far.plan_is ∙ sym plan_is;
-            script = so_far.script_is ∙ sym script_is;
-            within = omega (arith, last);
-            plays = so_far.records.plays;
-          };
+          still = turns_stopped;
           at = last;
           states = bare_is_played r so_far.records.plays
               ∙ ap (λ (p : Plan). played_at p r.script r.at) (so_far.plan_is ∙ sym plan_is)
               ∙ ap (λ (s : Script). played_at began.plan s r.at) (so_far.script_is ∙ sym script_is)
               ∙ ap (played_at began.plan began.script) last;
         }
-
-  pub turns_end : script.rounds ≤ t → Wrote (turns_text plan script) old mid
-  turns_end le = words_all (turn_text plan script) script.rounds t old mid le so_far.wrote
 
 -- the faulty nodes that a script lends for a configuration
 pub faulty_ids : (lent : FaultIds) (read script : Script) (t at : ℕ)
@@ -171,26 +158,16 @@ faulty_ids lent read script t at is same here =
 
 -- ---- texts that are written or not
 
-pub left_out : (b : Bool) (text : List ℕ) (s : Told) → b ≡ true → Wrote (cond b [] text) s s
-left_out true text s e = wrote_none s
-left_out false text s e = absurd cc
+module _ {K : Type 0} {told : K → SinkState} {x : Writer K} {b : Bool} where
+  pub left_out : (text : List ℕ) → b ≡ true → Writes told (cond b [] text) x x
+  left_out text e = writes_is (sym (ap (λ (c : Bool). cond c [] text) e)) writes_none
 
-pub put_in : {T E : Type 0} (r : Result T E) (b : Bool) (text : List ℕ) (s t : Told) → b ≡ false
-    → Puts r text s t
-    → Puts r (cond b [] text) s t
-put_in r true text s t e h = absurd cc
-put_in r false text s t e h = h
+  pub not_stated : (text : List ℕ) → b ≡ false → Writes told (cond b text []) x x
+  not_stated text e = writes_is (sym (ap (λ (c : Bool). cond c text []) e)) writes_none
 
-pub not_stated : (b : Bool) (text : List ℕ) (s : Told) → b ≡ false → Wrote (cond b text []) s s
-not_stated true text s e = absurd cc
-not_stated false text s e = wrote_none s
+  module _ {text : List ℕ} {y : Writer K} where
+    pub put_in : b ≡ false → Writes told text x y → Writes told (cond b [] text) x y
+    put_in e p = writes_is (sym (ap (λ (c : Bool). cond c [] text) e)) p
 
-pub stated : {T E : Type 0} (r : Result T E) (b : Bool) (text : List ℕ) (s t : Told) → b ≡ true
-    → Puts r text s t
-    → Puts r (cond b text []) s t
-stated r true text s t e h = h
-stated r false text s t e h = absurd cc
-
-pub puts_last : {T E : Type 0} (r : Result T E) (text : List ℕ) (s t : Told) → Puts r text s t
-    → Puts r (text ++ []) s t
-puts_last r text s t puts = subst (λ (x : List ℕ). Puts r x s t) (sym (append-nil text)) puts
+    pub stated : b ≡ true → Writes told text x y → Writes told (cond b text []) x y
+    stated e p = writes_is (sym (ap (λ (c : Bool). cond c text []) e)) p

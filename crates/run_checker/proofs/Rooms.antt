@@ -68,7 +68,7 @@ more_pairs q f n few third =
       more_product q d a,
     )
 
--- no faulty set that a plan bears has more pairs than there is room for
+-- no faulty set that a plan tolerates has more pairs than there is room for
 pub pairs_few : (plan : Plan) → IsAccepted plan → (set : FaultIds) → set.nodes ≡ plan_nodes plan
     → AreFaulty set → length set.ids ≤ plan_faults plan
     → length (pairs_of set.nodes set.ids) ≤ most_pairs plan

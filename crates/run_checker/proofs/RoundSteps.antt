@@ -19,8 +19,8 @@ use Rattle.state_codec.proofs.PlanStates.{in_range_of_node}
 use Rattle.adversary_script.proofs.LiesInRange.{zero_of_node}
 use Rattle.counter_core.specs.Meanings.{written}
 use Rattle.run_checker.specs.Grammar.{pairs_of}
-use Rattle.round_runner.proofs.Places.{all_places, set_has}
-use Rattle.run_checker.specs.declared.rounds.Room.{Room}
+use Rattle.machine_runner.proofs.Places.{all_places, set_has}
+use Rattle.run_checker.specs.declared.rounds.RoundBuffers.{RoundBuffers}
 use Rattle.run_checker.specs.Rounds.{stepped_at, stepped_all, state_next, AreStates, IsGathered}
 use Rattle.run_checker.proofs.BodyKept.{node_range, node_deep}
 
@@ -96,7 +96,7 @@ out_long plan accepted v heard out new long is =
 -- ---- a configuration whose next one is being written
 
 module _ (plan : Plan) (ids : List ℕ) (told : List State) (config : Pack) (next : List State)
-    (now : Pack) (room : Room) (fixed : now ≡ record config { next = next }) where
+    (now : Pack) (room : RoundBuffers) (fixed : now ≡ record config { next = next }) where
   pub gathered_in : IsGathered plan ids told config room → IsGathered plan ids told now room
   gathered_in h = subst (λ (p : Pack). IsGathered plan ids told p room) (sym fixed) (record {
     said = h.said;
@@ -119,7 +119,7 @@ module _ (plan : Plan) (ids : List ℕ) (told : List State) (config : Pack) (nex
 
 -- a room in which lies were laid
 pub gathered_laid : (plan : Plan) (ids : List ℕ) (told : List State) (config : Pack)
-    (old new : Room)
+    (old new : RoundBuffers)
     → new ≡ record old { lies = new.lies } → IsGathered plan ids told config old
     → length new.lies.items ≡ length old.lies.items → AreStates plan new.lies.items
     → IsGathered plan ids told config new

@@ -37,7 +37,7 @@ module _ (depth : ℕ) (faulty : List ℕ) (config : List State) where
   from v m None = None
   from v m (Some row) = compared_from depth faulty config v m row
 
-  -- one value in front of a row
+  -- one value before a row
   one_more : (x : Option ℕ) (bad : Bool) (v m : ℕ) (row : List (Option ℕ))
       → cond
       (same_marks (is_some x ∷ map is_some row)

@@ -1,9 +1,7 @@
 -- The texts that are written of a runner, by the configurations that are played.
-use Rattle.std.proofs.Common.{◌≡◌, ℕ, ◌+◌, List, [], ◌++◌, codes, Result, sym, ap, subst}
-use Rattle.std.proofs.Common.{◌∙◌, append-nil}
+use Rattle.std.proofs.Common.{◌≡◌, ℕ, ◌+◌, List, [], sym, ap, subst}
+use Rattle.std.proofs.Common.{◌∙◌}
 use Rattle.sync_types.specs.States.{State}
-use Rattle.texts.specs.Growth.{Told, Wrote, Cut, Puts}
-use Rattle.texts.proofs.Growth.{cut_more, cut_then, puts_then}
 use Rattle.construction.specs.Plans.{Plan, plan_nodes}
 use Rattle.state_codec.specs.Shapes.{moduli_of, shape_nodes}
 use Rattle.state_codec.proofs.Plans.{nodes_of_shape}
@@ -15,8 +13,8 @@ use Rattle.round_runner.specs.Played.{played_at}
 use Rattle.round_runner.specs.Runners.{Running, Advances}
 use Rattle.round_runner.proofs.Playing.{bare_is_played}
 use Rattle.run_checker.specs.Recorded.{era_at}
-use Rattle.run_checker.specs.RunLines.{first_starts, lies_text, era_lines, row_text, turn_text}
-use Rattle.run_checker.specs.RunLines.{turns_text, head_text, record_text}
+use Rattle.run_checker.specs.RunLines.{first_starts, lies_text, era_lines, row_text}
+use Rattle.run_checker.specs.RunLines.{turns_text}
 use Rattle.run_checker.specs.Playing.{Plays, IsToRecord, HasPlayedOne}
 
 -- the shape of a runner's states has a low for each node
@@ -127,87 +125,3 @@ module _ (old new now : Running NoOverlay) (one : HasPlayedOne old new) (same : 
       (λ (t : ℕ). row_text old.plan (faulty_at old.script t) t
       (played_at old.plan old.script (old.at + 1)))
       one.at
-
--- ---- one part of a text after another
-
-pub wrote_as : (x y : List ℕ) (a b : Told) → x ≡ y → Wrote x a b → Wrote y a b
-wrote_as x y a b same wrote = subst (λ (text : List ℕ). Wrote text a b) same wrote
-
-pub cut_as : (x y : List ℕ) (a b : Told) → x ≡ y → Cut x a b → Cut y a b
-cut_as x y a b same cut = subst (λ (text : List ℕ). Cut text a b) same cut
-
-pub puts_as : {T E : Type 0} (r : Result T E) (x y : List ℕ) (a b : Told) → x ≡ y → Puts r x a b
-    → Puts r y a b
-puts_as r x y a b same puts = subst (λ (text : List ℕ). Puts r text a b) same puts
-
-module _ (plan : Plan) (s : Script) where
-  abbrev head : List ℕ
-  head = head_text plan s
-
-  abbrev starts : List ℕ
-  starts = first_starts s (plan_nodes plan) (played_at plan s 0)
-
-  abbrev row : List ℕ
-  row = row_text plan (faulty_at s 0) 0 (played_at plan s 0)
-
-  abbrev turns : List ℕ
-  turns = turns_text plan s
-
-  abbrev last : List ℕ
-  last = codes "end\n" ++ []
-
-  pub cut_in_head : (a b : Told) → Cut head a b → Cut (record_text plan s) a b
-  cut_in_head a b cut = cut_more a b head (starts ++ (row ++ (turns ++ last))) cut
-
-  pub cut_in_starts : (a b c : Told) → Wrote head a b → Cut starts b c
-      → Cut (record_text plan s) a c
-  cut_in_starts a b c one cut =
-      cut_then a b c head (starts ++ (row ++ (turns ++ last))) one
-      (cut_more b c starts (row ++ (turns ++ last)) cut)
-
-  pub cut_in_row : (a b c d : Told) → Wrote head a b → Wrote starts b c → Cut row c d
-      → Cut (record_text plan s) a d
-  cut_in_row a b c d one two cut =
-      cut_then a b d head (starts ++ (row ++ (turns ++ last))) one
-      (cut_then b c d starts (row ++ (turns ++ last)) two (cut_more c d row (turns ++ last) cut))
-
-  pub cut_in_turns : (a b c d e : Told) → Wrote head a b → Wrote starts b c → Wrote row c d
-      → Cut turns d e → Cut (record_text plan s) a e
-  cut_in_turns a b c d e one two three cut =
-      cut_then a b e head (starts ++ (row ++ (turns ++ last))) one
-      (cut_then b c e starts (row ++ (turns ++ last)) two
-      (cut_then c d e row (turns ++ last) three (cut_more d e turns last cut)))
-
-  pub puts_record : {T E : Type 0} (r : Result T E) (a b c d e f : Told) → Wrote head a b
-      → Wrote starts b c → Wrote row c d → Wrote turns d e → Puts r (codes "end\n") e f
-      → Puts r (record_text plan s) a f
-  puts_record r a b c d e f one two three four puts =
-      puts_then r a b f head (starts ++ (row ++ (turns ++ last))) one
-      (puts_then r b c f starts (row ++ (turns ++ last)) two
-      (puts_then r c d f row (turns ++ last) three
-      (puts_then r d e f turns last four puts)))
-
-  module _ (t : ℕ) where
-    abbrev lies : List ℕ
-    lies = lies_text s (plan_nodes plan) t (played_at plan s t)
-
-    abbrev era : List ℕ
-    era = era_lines plan s t (played_at plan s (t + 1)) (era_at plan s (t + 1))
-
-    abbrev row_behind : List ℕ
-    row_behind = row_text plan (faulty_at s (t + 1)) (t + 1) (played_at plan s (t + 1))
-
-    pub cut_in_lies : (a b : Told) → Cut lies a b → Cut (turn_text plan s t) a b
-    cut_in_lies a b cut = cut_more a b lies (era ++ (row_behind ++ [])) cut
-
-    pub cut_in_era : (a b c : Told) → Wrote lies a b → Cut era b c → Cut (turn_text plan s t) a c
-    cut_in_era a b c one cut =
-        cut_then a b c lies (era ++ (row_behind ++ [])) one
-        (cut_more b c era (row_behind ++ []) cut)
-
-    pub puts_turn : {T E : Type 0} (r : Result T E) (a b c d : Told) → Wrote lies a b
-        → Wrote era b c → Puts r row_behind c d → Puts r (turn_text plan s t) a d
-    puts_turn r a b c d one two puts =
-        puts_then r a b d lies (era ++ (row_behind ++ [])) one
-        (puts_then r b c d era (row_behind ++ []) two
-        (puts_as r row_behind (row_behind ++ []) c d (sym (append-nil row_behind)) puts))

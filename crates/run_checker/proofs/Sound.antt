@@ -29,7 +29,7 @@ pub record ReadTurns (k : Known) (items : List Item) (v : Verdict) : Type 0 wher
   pub items_are : items ≡ turns_items (k.at + 1) turns
   pub verdict : followed k turns ≡ v
 
--- the lies that are left of a round, what stands behind them, and further rounds
+-- the lies that are left of a round, what stands after them, and further rounds
 pub record ReadRound (k : Known) (told : List State) (items : List Item) (v : Verdict) : Type 0
   where
     pub lies : List Lie
@@ -46,7 +46,7 @@ pub record ReadRound (k : Known) (told : List State) (items : List Item) (v : Ve
         ++ (row_item (k.at + 1) row ∷ turns_items (k.at + 1 + 1) turns))
     pub verdict : followed (behind k (all_lies k told lies) era row) turns ≡ v
 
--- states that are left to be put, a row, and rounds
+-- states that are still to be put, a row, and rounds
 pub record ReadPuts (k : Known) (unknown : List ℕ) (from : ℕ) (items : List Item) (v : Verdict) :
     Type 0 where
   pub puts : List Put
@@ -57,12 +57,12 @@ pub record ReadPuts (k : Known) (unknown : List ℕ) (from : ℕ) (items : List 
   pub items_are : items ≡ map start_of puts ++ (row_item k.at row ∷ turns_items (k.at + 1) turns)
   pub verdict : followed (compared (put_all k puts) row) turns ≡ v
 
--- where rounds are told: no lie was, and the last line stands, or a round goes on
+-- when rounds are told: no lie was, and the last line stands, or a round goes on
 abbrev pub ReadTelling : Known → List State → List Item → Verdict → Type 0
 ReadTelling k told items v =
     ((told ≡ []) × (items ≡ end_item ∷ []) × (verdict_now k ≡ v)) ⊎ ReadRound k told items v
 
--- what is behind a stage that is read to a verdict
+-- what follows a stage that is read to a verdict
 abbrev pub ReadBehind : Stage → List Item → Verdict → Type 0
 ReadBehind (putting k unknown from) items v = ReadPuts k unknown from items v
 ReadBehind (telling k told) items v = ReadTelling k told items v
@@ -79,7 +79,7 @@ turns_told k items v (inr r) = record {
   verdict = r.verdict;
 }
 
--- ---- one item more in front
+-- ---- one more item before the others
 
 start_before : (k : Known) (unknown : List ℕ) (from v : ℕ) (digits : List ℕ) (items : List Item)
     (verdict : Verdict)
@@ -142,7 +142,7 @@ not_empty : {X : Type 0} (xs : List X) (x : X) → xs ++ x ∷ [] ≡ [] → ⊥
 not_empty [] x e = absurd cc
 not_empty (y ∷ ys) x e = absurd cc
 
--- behind a lie the round goes on
+-- after a lie the round goes on
 round_told : (k : Known) (told : List State) (state : State) (items : List Item) (v : Verdict)
     → ReadTelling k (told ++ state ∷ []) items v → ReadRound k (told ++ state ∷ []) items v
 round_told k told state items v (inl (none, is, verdict)) = absurd (not_empty told state none)
@@ -201,7 +201,7 @@ era_before k told t ids items v fits r =
 some_is : (v w : Verdict) → Some v ≡ Some w → v ≡ w
 some_is v w e = cc
 
--- the last line, where no lie was told
+-- the last line, if no lie was told
 end_alone : (k : Known) (told : List State) (items : List Item) (v : Verdict)
     → accepts (telling k told) (end_item ∷ items) ≡ Some v → ReadTelling k told (end_item ∷ items) v
 end_alone k [] [] v e = inl (refl, refl, some_is _ _ e)

@@ -123,7 +123,7 @@ module _ (limit most : ℕ) (le : most ≤ limit) (s f l : Option (List ℕ)) (h
     are = once;
   }
 
-  -- and where there are none
+  -- and if there are none
   none_ahead : (bytes : List ℕ) → Pending most bytes → DecidesAtOnce limit true bytes
   none_ahead bytes once = record {
     front = bytes;
@@ -191,7 +191,7 @@ module _ (limit most : ℕ) (le : most ≤ limit) (s f l : Option (List ℕ)) (h
             ∙ h.decides (held ++ rest);
       }
 
-  -- where a read failed the buffer is empty
+  -- if a read failed, the buffer is empty
   pub text_lost : held ≡ [] → LostText line_step tt unread most f (prepend_known held l)
       → IsLost limit s l
   text_lost none h = record {

@@ -20,9 +20,6 @@ use Rattle.run_checker.specs.Grammar.{AreStarts}
 use Rattle.run_checker.specs.Checking.{needs_state}
 
 module _ (plan : Plan) (unknown faulty : List ℕ) where
-  n : ℕ
-  n = plan_nodes plan
-
   abbrev pub needs : ℕ → Bool
   needs v = is_in unknown v && not (is_in faulty v)
 
@@ -36,7 +33,7 @@ module _ (plan : Plan) (unknown faulty : List ℕ) where
       && not (needs_state unknown faulty from put.node)
       && is_state_text (fields_of plan put.node) put.digits
 
-  -- the tests of start lines, and that no state is needed behind the last
+  -- the tests of start lines, and that no state is needed after the last
   abbrev pub AllFit : (from : ℕ) → List Put → Type 0
   AllFit from [] = needs_state unknown faulty from (plan_nodes plan) ≡ false
   AllFit from (put ∷ puts) = (fits from put ≡ true) × AllFit (put.node + 1) puts

@@ -24,10 +24,10 @@ use Rattle.state_codec.proofs.Plans.{shape_of_accepted, depth_of_shape}
 use Rattle.state_codec.proofs.PlanStates.{state_of_node}
 use Rattle.state_codec.proofs.Lows.{fields_limited, depth_at}
 use Rattle.state_codec.proofs.Ranged.{zero_in_range, read_is_in_range}
-use Rattle.round_runner.proofs.Places.{each, placed}
+use Rattle.machine_runner.proofs.Places.{each, placed}
 use Rattle.run_checker.specs.Certificates.{Put, Lie, Era, Turn}
 use Rattle.run_checker.specs.Grammar.{faulty_behind}
-use Rattle.run_checker.specs.Stated.{Stand, Told, told_by, told_of, lies_table, unless_faulty}
+use Rattle.run_checker.specs.Stated.{Snapshot, Message, told_by, told_of, lies_table, unless_faulty}
 use Rattle.run_checker.specs.Stated.{with_starts, starts_of, stepped, stand_behind}
 use Rattle.run_checker.specs.Stated.{first_stand, stands_behind}
 use Rattle.run_checker.specs.Laws.{AreQuiet, stand_after, StretchesAreRuns}
@@ -46,9 +46,9 @@ found_has P p [] h = tt
 found_has P p (x ∷ xs) h =
     found_by P p (p x) x (find p xs) refl (All-head P x xs h) (found_has P p xs (All-tail P x xs h))
 
-or_has : (P : State → Type 0) (Q : Told → Type 0) (o : Option Told) (s : State)
-    → ((t : Told) → Q t → P t.state)
-    → IfSome o Q → P s → P (unwrap_or (option_map (λ (t : Told). t.state) o) s)
+or_has : (P : State → Type 0) (Q : Message → Type 0) (o : Option Message) (s : State)
+    → ((t : Message) → Q t → P t.state)
+    → IfSome o Q → P s → P (unwrap_or (option_map (λ (t : Message). t.state) o) s)
 or_has P Q None s given h p = p
 or_has P Q (Some x) s given h p = given x h
 
@@ -123,12 +123,12 @@ module _ (plan : Plan) (accepted : IsAccepted plan) where
       put_is puts (set config put.node (read_text (fields_of plan put.node) put.digits))
       (set_is config put.node _ (λ lt. read_is put.node lt put.digits) h)
 
-  abbrev IsOwn : Told → Type 0
+  abbrev IsOwn : Message → Type 0
   IsOwn t = t.sender < plan_nodes plan → IsState plan t.sender t.state
 
   table_is : (lies : List Lie) → IsTable plan (lies_table plan (map (told_by plan) lies))
   table_is lies =
-      let told : List Told = map (told_by plan) lies in
+      let told : List Message = map (told_by plan) lies in
       let states : All IsOwn told = All-map IsOwn (told_by plan) lies
       (λ i d l lt. read_is _ lt _) in
       let row : ℕ
@@ -142,7 +142,7 @@ module _ (plan : Plan) (accepted : IsAccepted plan) where
             (record {
               size = length-map-range_with_len (λ v. told_of plan told u v) 0 (plan_nodes plan);
               states = each (IsState plan u) (λ v. told_of plan told u v) (plan_nodes plan) (λ v l.
-                  let test : Told → Bool = λ t. eqb t.sender u && eqb t.receiver v in
+                  let test : Message → Bool = λ t. eqb t.sender u && eqb t.receiver v in
                   or_has (IsState plan u) (λ t. IsOwn t × (test t ≡ true)) (find test told)
                   (zero_state (plan_depth plan))
                   (λ t h.
@@ -152,7 +152,7 @@ module _ (plan : Plan) (accepted : IsAccepted plan) where
             });
       }
 
-  stand_is : (stand : Stand) (turn : Turn)
+  stand_is : (stand : Snapshot) (turn : Turn)
       → IsConfiguration plan (stand_behind plan stand turn).config
   stand_is stand turn =
       put_is (starts_of turn.era) _
@@ -166,15 +166,15 @@ module _ (plan : Plan) (accepted : IsAccepted plan) where
   correct_state false x y e = refl
   correct_state true x y e = absurd cc
 
-  -- behind a quiet round
-  quiet_stand : (stand : Stand) (turn : Turn) → turn.era ≡ None
+  -- after a quiet round
+  quiet_stand : (stand : Snapshot) (turn : Turn) → turn.era ≡ None
       → stand_behind plan stand turn
       ≡ record {
         faulty = stand.faulty;
         config = stepped plan stand.faulty stand (map (told_by plan) turn.lies);
       }
   quiet_stand stand turn quiet = ap (λ (era : Option Era). with_era era) quiet where
-    with_era : Option Era → Stand
+    with_era : Option Era → Snapshot
     with_era era =
         record {
           faulty = faulty_behind stand.faulty era;
@@ -183,15 +183,15 @@ module _ (plan : Plan) (accepted : IsAccepted plan) where
               (starts_of era);
         }
 
-  round_is : (stand : Stand) (turn : Turn) → turn.era ≡ None
+  round_is : (stand : Snapshot) (turn : Turn) → turn.era ≡ None
       → Round plan stand.faulty stand.config (lies_table plan (map (told_by plan) turn.lies))
       (stand_behind plan stand turn).config
   round_is stand turn quiet =
-      let told : List Told = map (told_by plan) turn.lies in
+      let told : List Message = map (told_by plan) turn.lies in
       record {
         table = table_is turn.lies;
         steps = λ v lt correct.
-            ap (λ (s : Stand). state_of s.config v) (quiet_stand stand turn quiet)
+            ap (λ (s : Snapshot). state_of s.config v) (quiet_stand stand turn quiet)
             ∙ get_or-map-range_with_len
             (λ u. cond (is_in stand.faulty u) (zero_state (plan_depth plan))
             (step_of plan u
@@ -204,7 +204,7 @@ module _ (plan : Plan) (accepted : IsAccepted plan) where
             correct;
       }
 
-  -- one configuration in front of a run
+  -- one configuration before a run
   run_before : (faulty : List ℕ) (old new : List State) (configs : List (List State))
       → IsConfiguration plan old → IsNext plan faulty old new → Run plan faulty (new ∷ configs)
       → Run plan faulty (old ∷ new ∷ configs)
@@ -234,29 +234,29 @@ module _ (plan : Plan) (accepted : IsAccepted plan) where
         rounds = λ t lt. absurd (omega arith);
       }
 
-  stretch_is : (turns : List Turn) (stand : Stand) → IsConfiguration plan stand.config
+  stretch_is : (turns : List Turn) (stand : Snapshot) → IsConfiguration plan stand.config
       → AreQuiet turns
       → Run plan stand.faulty
-      (map (λ (s : Stand). s.config) (stand ∷ stands_behind plan stand turns))
+      (map (λ (s : Snapshot). s.config) (stand ∷ stands_behind plan stand turns))
   stretch_is [] stand is quiet = one_run stand.faulty stand.config is
   stretch_is (turn ∷ turns) stand is quiet =
       let now : turn.era ≡ None = All-head (λ (t : Turn). t.era ≡ None) turn turns quiet in
-      let next : Stand = stand_behind plan stand turn in
+      let next : Snapshot = stand_behind plan stand turn in
       let same : next.faulty
-      ≡ stand.faulty = ap (λ (s : Stand). s.faulty) (quiet_stand stand turn now) in
+      ≡ stand.faulty = ap (λ (s : Snapshot). s.faulty) (quiet_stand stand turn now) in
       run_before stand.faulty stand.config next.config
-      (map (λ (s : Stand). s.config) (stands_behind plan next turns)) is
+      (map (λ (s : Snapshot). s.config) (stands_behind plan next turns)) is
       (record {
         lies = lies_table plan (map (told_by plan) turn.lies);
         round = round_is stand turn now;
       })
       (subst
-      (λ f. Run plan f (map (λ (s : Stand). s.config) (next ∷ stands_behind plan next turns)))
+      (λ f. Run plan f (map (λ (s : Snapshot). s.config) (next ∷ stands_behind plan next turns)))
       same
       (stretch_is turns next (stand_is stand turn)
       (All-tail (λ (t : Turn). t.era ≡ None) turn turns quiet)))
 
-  after_is : (before : List Turn) (stand : Stand) → IsConfiguration plan stand.config
+  after_is : (before : List Turn) (stand : Snapshot) → IsConfiguration plan stand.config
       → IsConfiguration plan (stand_after plan stand before).config
   after_is [] stand is = is
   after_is (turn ∷ turns) stand is =

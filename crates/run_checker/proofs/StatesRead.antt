@@ -52,7 +52,7 @@ module _ (shape : Shape) where
   read_of (p ∷ pairs) (t ∷ texts) (suc k) lt le =
       read_of pairs texts k (omega (arith, lt)) (omega (arith, le))
 
-  -- the number of digits was set for one pair more
+  -- the number of digits was set for one more pair
   pub counted_more : (pairs : List (ℕ × ℕ)) (texts : List (List ℕ)) (k : ℕ) (text : List ℕ)
       → k < length texts → length text ≡ room_of shape (get_or pairs k (0, 0))
       → ((j : ℕ) → j < k → length (get_or texts j []) ≡ room_of shape (get_or pairs j (0, 0)))
@@ -216,7 +216,7 @@ module _ (shape : Shape) where
                 (told_more text more (fit_long ∙ ap (λ (r : List ℕ). length r) room_is)),
           )
 
-    -- the same of what is there behind it
+    -- the same of what stands there
     module _ (text room : List ℕ) (more : count < length pairs)
         (at : room ≡ get_or texts count room) (old : Telling) (is : told_view ≡ old) where
       pub adds_none_at : (eqb (length text) (length room) && list_all is_lower_digit text) ≡ false

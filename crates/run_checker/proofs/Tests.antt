@@ -104,7 +104,7 @@ borne_declared plan ids e =
       few = leb-true _ _ p.1;
     }
 
--- ---- starts and the row behind them
+-- ---- starts and the row after them
 
 pub puts_fit : (k : Known) (unknown : List ℕ) (from : ℕ) (puts : List Put) (row : List (Option ℕ))
     → AllFit k.plan unknown k.stand.faulty from puts → is_row k.plan k.stand.faulty row ≡ true

@@ -26,7 +26,7 @@ range_split (suc k) a m (suc n) b e at =
     ap (λ (rest : List ℕ). a ∷ rest)
     (range_split k (a + 1) m n b (omega (arith, e)) (omega (arith, at)))
 
--- a correct node stands among the correct ones behind those before it
+-- a correct node stands among the correct ones after those before it
 abbrev behind : (n v : ℕ) → (faulty : List ℕ) → List ℕ
 behind n v faulty = filter (λ u. not (is_in faulty u)) (range_with_len (v + 1) (n - (v + 1)))
 
@@ -69,7 +69,7 @@ module _ (depth v : ℕ) where
   none_of true b e = e
   none_of false b e = refl
 
-  -- among those of a sender the one of v stands behind those of lower nodes
+  -- among those of a sender, the one of v stands after those of lower nodes
   own_row : (p : ℕ → Bool) (k a : ℕ) (rest : List ℕ) (after : List (ℕ × ℕ)) (told : List State)
       (u : ℕ) → a + k ≤ v
       → told_for depth (map (λ x. (u, x)) (filter p (range_with_len a k) ++ v ∷ rest) ++ after)
@@ -97,7 +97,7 @@ module _ (depth v : ℕ) where
             (none_of (eqb u u) (eqb a v) (ne_eqb a v (λ (e : a ≡ v). omega (arith, le, e))))
             ∙ again told u (omega (arith, le))
 
-  -- and where v is none of the receivers, none is
+  -- and if v is none of the receivers, none is
   absent_row : (p : ℕ → Bool) → p v ≡ false → (k a w : ℕ) (after : List (ℕ × ℕ))
       (told : List State) (u : ℕ)
       → told_for depth (map (λ x. (w, x)) (filter p (range_with_len a k)) ++ after) told u v
@@ -171,7 +171,7 @@ told_at depth n v faulty lt is apart j jlt told =
     (omega arith))
     faulty apart j jlt told
 
--- a faulty node is told nothing
+-- a faulty node is given nothing
 none_in : (depth n v : ℕ) (faulty : List ℕ) → is_in faulty v ≡ true → (ids : List ℕ)
     (told : List State) (u : ℕ)
     → told_for depth (flat_map (λ w. map (λ x. (w, x)) (correct_nodes n faulty)) ids) told u v

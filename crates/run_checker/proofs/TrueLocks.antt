@@ -17,7 +17,7 @@ use Rattle.round_runner.specs.Locks.{is_locked}
 use Rattle.run_checker.specs.declared.Verdict.TheVariants as verdict
 use Rattle.run_checker.specs.Certificates.{Era, Turn, Certificate}
 use Rattle.run_checker.specs.Grammar.{IsCertificate}
-use Rattle.run_checker.specs.Stated.{Stand, first_stand, stated, first_from, begins_at}
+use Rattle.run_checker.specs.Stated.{Snapshot, first_stand, stated, first_from, begins_at}
 use Rattle.run_checker.specs.Stated.{last_start_from, last_start, locks_at, verdict_by}
 use Rattle.run_checker.specs.Stated.{verdict_of, first_difference}
 use Rattle.run_checker.specs.Laws.{AreQuiet, EndWithEra, LockedAt, NoneLocked, IsFirstLocked}
@@ -28,13 +28,13 @@ use Rattle.run_checker.proofs.TrueRows.{borne, size, stand_is, config_is, rows_c
 
 -- ---- where the last era begins
 
--- the number of the last round of these, the first of which has number t; where there is none, the
+-- the number of the last round of these, the first of which has number t; if there is none, the
 -- last begin so far
 abbrev begun : (t last : ℕ) → List Turn → ℕ
 begun t last [] = last
 begun t last (turn ∷ turns) = t + length turns
 
--- rounds up to the last begin of an era, and those behind it
+-- rounds up to the last begin of an era, and those after it
 record Split (t last : ℕ) (turns : List Turn) : Type 0 where
   before : List Turn
   stretch : List Turn
@@ -43,7 +43,7 @@ record Split (t last : ℕ) (turns : List Turn) : Type 0 where
   quiet : AreQuiet stretch
   is : last_start_from t last turns ≡ begun t last before
 
--- no era begins behind later rounds
+-- no era begins after later rounds
 split_here : (t last : ℕ) (turn : Turn) (turns : List Turn) (era : Option Era) → turn.era ≡ era
     → AreQuiet turns → last_start_from (t + 1) (begins_at t last era) turns ≡ begins_at t last era
     → Split t last (turn ∷ turns)
@@ -96,7 +96,7 @@ split t last (turn ∷ turns) =
 -- ---- the first that passes
 
 module _ {X : Type 0} (p : X → Bool) (d : X) where
-  -- none from number n on, where the first of the list has this number
+  -- none from number n on, which is that of the first of the list
   abbrev NonePasses : (n : ℕ) → List X → (end : ℕ) → Type 0
   NonePasses n xs end = (t : ℕ) → n ≤ t → t < end → p (get_or xs (t - n) d) ≡ false
 
@@ -167,7 +167,7 @@ module _ (test : LockTestIsExact) (locks : LocksAtBound) (locked_count : LockedR
   abbrev from : ℕ
   from = length begin.before
 
-  abbrev passes : Stand → Bool
+  abbrev passes : Snapshot → Bool
   passes s = is_locked c.plan s.faulty s.config
 
   from_is : last_start c ≡ from
@@ -240,16 +240,16 @@ module _ (test : LockTestIsExact) (locks : LocksAtBound) (locked_count : LockedR
     turns_long : length c.turns ≡ from + length begin.stretch
     turns_long = ap length begin.parts ∙ length-append begin.before begin.stretch
 
-    abbrev last_stand : Stand
+    abbrev last_stand : Snapshot
     last_stand = stand c is rows locked true_is begin.before begin.stretch [] whole begin.quiet
 
-    abbrev last_stands : List Stand
+    abbrev last_stands : List Snapshot
     last_stands = stands c is rows locked true_is begin.before begin.stretch [] whole begin.quiet
 
     abbrev last_configs : List (List State)
     last_configs = configs c is rows locked true_is begin.before begin.stretch [] whole begin.quiet
 
-    abbrev first : Stand
+    abbrev first : Snapshot
     first = first_stand c
 
     -- what is locked at a place of the stretch
@@ -270,12 +270,12 @@ module _ (test : LockTestIsExact) (locks : LocksAtBound) (locked_count : LockedR
       to_run h =
           subst (λ config. IsLocked c.plan last_stand.faulty config) (sym config_at)
           (subst (λ f. IsLocked c.plan f (get_or last_stands i first).config) faulty_at
-          (subst (λ (s : Stand). IsLocked c.plan s.faulty s.config) stand_at h))
+          (subst (λ (s : Snapshot). IsLocked c.plan s.faulty s.config) stand_at h))
 
       from_run : IsLocked c.plan last_stand.faulty (configuration last_configs i)
           → LockedAt c (from + i)
       from_run h =
-          subst (λ (s : Stand). IsLocked c.plan s.faulty s.config) (sym stand_at)
+          subst (λ (s : Snapshot). IsLocked c.plan s.faulty s.config) (sym stand_at)
           (subst (λ f. IsLocked c.plan f (get_or last_stands i first).config) (sym faulty_at)
           (subst (λ config. IsLocked c.plan last_stand.faulty config) config_at h))
 

@@ -17,7 +17,7 @@ use Rattle.plan_laws.specs.Laws.{EveryPlanSettles}
 use Rattle.run_checker.specs.declared.Verdict.TheVariants as verdict
 use Rattle.run_checker.specs.Certificates.{Era, Turn, Certificate}
 use Rattle.run_checker.specs.Grammar.{IsCertificate, AreTurns, IsEra, faulty_behind}
-use Rattle.run_checker.specs.Stated.{Stand, stand_behind, first_stand, stands_behind, stated}
+use Rattle.run_checker.specs.Stated.{Snapshot, stand_behind, first_stand, stands_behind, stated}
 use Rattle.run_checker.specs.Stated.{shown_row, rows_of, same_rows, differences, first_from}
 use Rattle.run_checker.specs.Stated.{first_difference, verdict_by, verdict_of}
 use Rattle.run_checker.specs.Laws.{AreQuiet, stand_after, StretchCountsFrom, TrueRowsCount}
@@ -44,7 +44,7 @@ head_none : (same : Bool) (n : ℕ) (more : Option ℕ) → cond (not same) (Som
 head_none true n more e = (refl, e)
 head_none false n more e = absurd cc
 
-none_differs : (plan : Plan) (rows : List (List (Option ℕ))) (stands : List Stand) (n : ℕ)
+none_differs : (plan : Plan) (rows : List (List (Option ℕ))) (stands : List Snapshot) (n : ℕ)
     → length rows ≡ length stands
     → first_from (λ b. b) n (differences plan rows stands) ≡ None
     → rows ≡ map (shown_row plan) stands
@@ -62,7 +62,7 @@ true_none : (d : Option ℕ) (rows : ℕ) (l : Option ℕ) (n : ℕ) (m : Option
 true_none None rows l n m e = refl
 true_none (Some t) rows l n m e = absurd cc
 
-pub count_stands : (plan : Plan) (stand : Stand) (turns : List Turn)
+pub count_stands : (plan : Plan) (stand : Snapshot) (turns : List Turn)
     → length (stands_behind plan stand turns) ≡ length turns
 count_stands plan stand [] = refl
 count_stands plan stand (turn ∷ turns) =
@@ -79,7 +79,7 @@ all_shown c n m e =
 
 -- ---- the configurations of a stretch
 
-after_at : (plan : Plan) (stand : Stand) (before rest : List Turn) (i : ℕ) (d : Stand)
+after_at : (plan : Plan) (stand : Snapshot) (before rest : List Turn) (i : ℕ) (d : Snapshot)
     → get_or (stand ∷ stands_behind plan stand (before ++ rest)) (length before + i) d
     ≡ get_or
     (stand_after plan stand before ∷ stands_behind plan (stand_after plan stand before) rest) i
@@ -89,7 +89,7 @@ after_at plan stand (turn ∷ before) rest i d =
     let same : length (turn ∷ before) + i ≡ suc (length before + i) = omega arith in
     rw same (after_at plan (stand_behind plan stand turn) before rest i d)
 
-within_at : (plan : Plan) (stand : Stand) (stretch after : List Turn) (i : ℕ) (d : Stand)
+within_at : (plan : Plan) (stand : Snapshot) (stretch after : List Turn) (i : ℕ) (d : Snapshot)
     → i ≤ length stretch
     → get_or (stand ∷ stands_behind plan stand (stretch ++ after)) i d
     ≡ get_or (stand ∷ stands_behind plan stand stretch) i d
@@ -99,7 +99,7 @@ within_at plan stand (turn ∷ stretch) after (suc i) d le =
     within_at plan (stand_behind plan stand turn) stretch after i d (omega arith)
 
 -- in a stretch the faulty nodes stay
-pub quiet_faulty : (plan : Plan) (stand : Stand) (stretch : List Turn) (i : ℕ) (d : Stand)
+pub quiet_faulty : (plan : Plan) (stand : Snapshot) (stretch : List Turn) (i : ℕ) (d : Snapshot)
     → AreQuiet stretch → i ≤ length stretch
     → (get_or (stand ∷ stands_behind plan stand stretch) i d).faulty ≡ stand.faulty
 quiet_faulty plan stand stretch zero d quiet le = refl
@@ -116,7 +116,7 @@ borne_behind : (plan : Plan) (faulty : List ℕ) (era : Option Era) → IsBorne 
 borne_behind plan faulty None borne is = borne
 borne_behind plan faulty (Some era) borne is = is.borne
 
-borne_after : (plan : Plan) (before rest : List Turn) (stand : Stand) → IsBorne plan stand.faulty
+borne_after : (plan : Plan) (before rest : List Turn) (stand : Snapshot) → IsBorne plan stand.faulty
     → AreTurns plan stand.faulty (before ++ rest)
     → IsBorne plan (stand_after plan stand before).faulty
 borne_after plan [] rest stand borne are = borne
@@ -129,7 +129,7 @@ same_word : (liar : Bool) (o p : ℕ) → (liar ≡ false → o ≡ p)
 same_word true o p h = refl
 same_word false o p h = ap Some (h refl)
 
-row_of_one : (plan : Plan) (faulty : List ℕ) (stand : Stand) (o : ℕ) → stand.faulty ≡ faulty
+row_of_one : (plan : Plan) (faulty : List ℕ) (stand : Snapshot) (o : ℕ) → stand.faulty ≡ faulty
     → AllShow plan faulty stand.config o
     → shown_row plan stand
     ≡ map (λ v. cond (is_in faulty v) None (Some o)) (range_with_len 0 (plan_nodes plan))
@@ -153,14 +153,14 @@ row_of_one plan faulty stand o same all =
 module _ (c : Certificate) (is : IsCertificate c) (rows : ℕ) (locked : Option ℕ)
     (true_is : verdict_of c ≡ verdict.True rows locked) (before stretch after : List Turn)
     (parts : c.turns ≡ before ++ (stretch ++ after)) (quiet : AreQuiet stretch) where
-  abbrev pub stand : Stand
+  abbrev pub stand : Snapshot
   stand = stand_after c.plan (first_stand c) before
 
-  abbrev pub stands : List Stand
+  abbrev pub stands : List Snapshot
   stands = stand ∷ stands_behind c.plan stand stretch
 
   abbrev pub configs : List (List State)
-  configs = map (λ (s : Stand). s.config) stands
+  configs = map (λ (s : Snapshot). s.config) stands
 
   pub run : Run c.plan stand.faulty configs
   run = stretches_are_runs c is before stretch after parts quiet
@@ -170,7 +170,7 @@ module _ (c : Certificate) (is : IsCertificate c) (rows : ℕ) (locked : Option 
       (subst (AreTurns c.plan c.faulty) parts is.turns)
 
   pub size : length configs ≡ length stretch + 1
-  size = length-map stands (λ (s : Stand). s.config)
+  size = length-map stands (λ (s : Snapshot). s.config)
       ∙ ap suc (count_stands c.plan stand stretch) ∙ omega arith
 
   length_parts : length before + length stretch ≤ length (before ++ (stretch ++ after))
@@ -197,7 +197,7 @@ module _ (c : Certificate) (is : IsCertificate c) (rows : ℕ) (locked : Option 
   pub config_is : (i : ℕ) → i ≤ length stretch
       → configuration configs i ≡ (get_or stands i (first_stand c)).config
   config_is i high =
-      get_or-map (λ (s : Stand). s.config) stands i (first_stand c) []
+      get_or-map (λ (s : Snapshot). s.config) stands i (first_stand c) []
       (omega (arith, high, count_stands c.plan stand stretch))
 
   pub rows_count : (from : ℕ) → CountsFrom c.plan stand.faulty configs from

@@ -21,7 +21,7 @@ use Rattle.run_checker.specs.Checks.{checked_by, checked_within, unlimited, Limi
 
 -- ---- lines
 
--- behind so many whole lines stand the others, and what has no newline
+-- after so many whole lines stand the others, and what has no newline
 pub record Behind (front text : List ℕ) (n : ℕ) : Type 0 where
   pub lines : whole_lines (behind_lines (suc n) text) ≡ drop (suc n) (whole_from front text)
   pub rest : open_rest (behind_lines (suc n) text) ≡ open_from front text
@@ -148,7 +148,7 @@ found_in (line ∷ lines) s taken number found e =
     found_next (line_step s line) line lines taken number found
     (λ t. found_in lines t (taken + 1) (number + 1) found) e
 
--- ---- what stands behind
+-- ---- what stands after
 
 followed : (v : Verdict) (k : ℕ) (lines : List (List ℕ)) (rest : List ℕ)
     → 0 < length (text_of lines ++ rest)

@@ -8,7 +8,7 @@ use Rattle.construction.specs.Plans.{plan_nodes}
 use Rattle.sync_types.specs.States.{State}
 use Rattle.run_checker.specs.Certificates.{Put, Lie, Era}
 use Rattle.run_checker.specs.Grammar.{pairs_of}
-use Rattle.run_checker.specs.Stated.{Stand, Told, told_by, stepped, with_starts, stand_behind}
+use Rattle.run_checker.specs.Stated.{Snapshot, Message, told_by, stepped, with_starts, stand_behind}
 use Rattle.run_checker.specs.Stated.{stated}
 use Rattle.run_checker.specs.Checking.{Known, put_state, moved, renewed, attributed}
 use Rattle.run_checker.proofs.Complete.{put_all, all_lies, lie_state, behind}
@@ -29,7 +29,7 @@ all_lies_are k told (lie ∷ lies) =
     all_lies_are k (told ++ lie_state k lie ∷ []) lies
     ∙ append_assoc told (lie_state k lie ∷ []) (map (lie_state k) lies)
 
-abbrev joins : (ℕ × ℕ) × State → Told
+abbrev joins : (ℕ × ℕ) × State → Message
 joins (pair, state) = record { sender = pair.0; receiver = pair.1; state = state }
 
 attributed_to : (k : Known) (lies : List Lie)
@@ -52,7 +52,11 @@ pub stand_moved : (k : Known) (faulty : List ℕ) (lies : List Lie)
     { faulty = faulty; config = stepped k.plan faulty k.stand (map (told_by k.plan) lies) }
 stand_moved k faulty lies is =
     ap
-    (λ (told : List Told). record { faulty = faulty; config = stepped k.plan faulty k.stand told })
+    (λ (told : List Message). record {
+      faulty = faulty;
+      config = stepped k.plan faulty k.stand
+          told;
+    })
     (attributed_are k lies is)
 
 pub stand_turned : (k : Known) (lies : List Lie) (era : Option Era) (row : List (Option ℕ))
@@ -63,6 +67,6 @@ stand_turned k lies None row is = stand_moved k k.stand.faulty lies is
 stand_turned k lies (Some era) row is =
     put_all_stand (renewed k era.faulty (all_lies k [] lies)) era.starts
     ∙ ap
-    (λ (s : Stand). record
+    (λ (s : Snapshot). record
     { faulty = s.faulty; config = with_starts k.plan s.config era.starts })
     (stand_moved k era.faulty lies is)

@@ -9,7 +9,7 @@ use Rattle.round_runner.specs.Locks.{is_locked, first_of}
 use Rattle.run_checker.specs.declared.Verdict.{Verdict}
 use Rattle.run_checker.specs.Certificates.{Put, Lie, Era, Turn, Certificate}
 use Rattle.run_checker.specs.Grammar.{pairs_of, IsCertificate, AreTurns}
-use Rattle.run_checker.specs.Stated.{Stand, stand_behind}
+use Rattle.run_checker.specs.Stated.{Snapshot, stand_behind}
 use Rattle.run_checker.specs.Stated.{first_stand, stands_behind, stated, shown_row, same_rows}
 use Rattle.run_checker.specs.Stated.{differences, first_from, first_difference, begins_at}
 use Rattle.run_checker.specs.Stated.{last_start_from, last_start, locks_at, verdict_by}
@@ -34,8 +34,8 @@ of_or None true now more = refl
 of_or None false now more = refl
 of_or (Some t) b now more = refl
 
--- the first locked one, where known is the first so far of the era that goes on
-abbrev pub lock_over : Plan → (known : Option ℕ) → (t : ℕ) → List Turn → List Stand → Option ℕ
+-- the first locked one, if known is the first so far of the era that goes on
+abbrev pub lock_over : Plan → (known : Option ℕ) → (t : ℕ) → List Turn → List Snapshot → Option ℕ
 lock_over plan known t [] stands = known
 lock_over plan known t (turn ∷ turns) [] = known
 lock_over plan known t (turn ∷ turns) (stand ∷ stands) =
@@ -47,7 +47,7 @@ abbrev rows : List Turn → List (List (Option ℕ))
 rows turns = map (λ turn. turn.row) turns
 
 -- the verdict from a stand on
-abbrev verdict_over : Plan → Stand → (differs : Option ℕ) → (locked : Option ℕ) → (at : ℕ)
+abbrev verdict_over : Plan → Snapshot → (differs : Option ℕ) → (locked : Option ℕ) → (at : ℕ)
     → List Turn → Verdict
 verdict_over plan stand differs locked at turns =
     verdict_by
@@ -68,8 +68,8 @@ locked_put_all : (k : Known) (puts : List Put) → (put_all k puts).locked ≡ k
 locked_put_all k [] = refl
 locked_put_all k (put ∷ puts) = locked_put_all (put_state k put.node put.digits) puts
 
--- what a row comes to, where it is known what is compared
-differs_compared : (m : Known) (row : List (Option ℕ)) (plan : Plan) (stand : Stand) (at : ℕ)
+-- what a row comes to, if it is known what is compared
+differs_compared : (m : Known) (row : List (Option ℕ)) (plan : Plan) (stand : Snapshot) (at : ℕ)
     (differs : Option ℕ)
     → m.plan ≡ plan → m.stand ≡ stand → m.at ≡ at → m.differs ≡ differs
     → (compared m row).differs ≡ first_of differs (not (same_rows row (shown_row plan stand))) at
@@ -79,17 +79,17 @@ differs_compared m row plan stand at differs p s a d =
     ∙ ap (λ q. first_of m.differs (not (same_rows row (shown_row plan stand))) q) a
     ∙ ap (λ q. first_of q (not (same_rows row (shown_row plan stand))) at) d
 
-locked_compared : (m : Known) (row : List (Option ℕ)) (plan : Plan) (stand : Stand) (at : ℕ)
+locked_compared : (m : Known) (row : List (Option ℕ)) (plan : Plan) (stand : Snapshot) (at : ℕ)
     (locked : Option ℕ)
     → m.plan ≡ plan → m.stand ≡ stand → m.at ≡ at → m.locked ≡ locked
     → (compared m row).locked ≡ first_of locked (is_locked plan stand.faulty stand.config) at
 locked_compared m row plan stand at locked p s a d =
     ap (λ q. first_of m.locked (is_locked q m.stand.faulty m.stand.config) m.at) p
-    ∙ ap (λ (q : Stand). first_of m.locked (is_locked plan q.faulty q.config) m.at) s
+    ∙ ap (λ (q : Snapshot). first_of m.locked (is_locked plan q.faulty q.config) m.at) s
     ∙ ap (λ q. first_of m.locked (is_locked plan stand.faulty stand.config) q) a
     ∙ ap (λ q. first_of q (is_locked plan stand.faulty stand.config) at) d
 
--- what is known behind a round, in the words of the stated run
+-- what is known after a round, in the words of the stated run
 record Behind (k : Known) (turn : Turn) : Type 0 where
   stand : (turned k turn).stand ≡ stand_behind k.plan k.stand turn
   differs : (turned k turn).differs
@@ -106,7 +106,11 @@ behind_is : (k : Known) (lies : List Lie) (era : Option Era) (row : List (Option
     → Behind k (record { lies = lies; era = era; row = row })
 behind_is k lies None row is =
     let m = moved k k.stand.faulty (all_lies k [] lies) in
-    let s : Stand = stand_behind k.plan k.stand (record { lies = lies; era = None; row = row }) in
+    let s : Snapshot = stand_behind k.plan k.stand (record {
+      lies = lies;
+      era = None;
+      row = row;
+    }) in
     record {
       stand = stand_turned k lies None row is;
       differs =
@@ -119,7 +123,7 @@ behind_is k lies None row is =
 behind_is k lies (Some era) row is =
     let r = renewed k era.faulty (all_lies k [] lies) in
     let m = put_all r era.starts in
-    let s : Stand = stand_behind k.plan k.stand
+    let s : Snapshot = stand_behind k.plan k.stand
     (record { lies = lies; era = Some era; row = row }) in
     let same : m.stand ≡ s = stand_turned k lies (Some era) row is in
     record {
@@ -133,7 +137,7 @@ behind_is k lies (Some era) row is =
     }
 
 -- the verdict that is kept is that over the stands
-followed_is : (turns : List Turn) (k : Known) (plan : Plan) (stand : Stand)
+followed_is : (turns : List Turn) (k : Known) (plan : Plan) (stand : Snapshot)
     (differs locked : Option ℕ) (at : ℕ)
     → k.plan ≡ plan → k.stand ≡ stand → k.differs ≡ differs → k.locked ≡ locked → k.at ≡ at
     → AreTurns plan stand.faulty turns
@@ -143,9 +147,9 @@ followed_is [] k plan stand differs locked at p s d l a h =
     ∙ ap (λ q. verdict_by (first_or differs None) q k.locked) (omega (arith, a))
     ∙ ap (λ q. verdict_by (first_or differs None) (at + 1 + 0) q) l
 followed_is (turn ∷ turns) k plan stand differs locked at p s d l a h =
-    let next : Stand = stand_behind plan stand turn in
+    let next : Snapshot = stand_behind plan stand turn in
     let told : map pair_of turn.lies ≡ pairs_of (plan_nodes k.plan) k.stand.faulty = h.0.told
-    ∙ ap (λ (x : Stand). pairs_of (plan_nodes plan) x.faulty) (sym s)
+    ∙ ap (λ (x : Snapshot). pairs_of (plan_nodes plan) x.faulty) (sym s)
     ∙ ap (λ x. pairs_of (plan_nodes x) k.stand.faulty) (sym p) in
     let b = behind_is k turn.lies turn.era turn.row told in
     let same : stand_behind k.plan k.stand turn ≡ next = ap (λ x. stand_behind x k.stand turn) p
@@ -164,7 +168,7 @@ followed_is (turn ∷ turns) k plan stand differs locked at p s d l a h =
     let l2 : (turned k turn).locked ≡ locked2 =
     b.locked
     ∙ ap
-    (λ (x : Stand). first_of (cond (is_some turn.era) None k.locked)
+    (λ (x : Snapshot). first_of (cond (is_some turn.era) None k.locked)
     (is_locked k.plan x.faulty x.config) (k.at + 1))
     same
     ∙ ap
@@ -214,7 +218,7 @@ no_start (turn ∷ turns) t last e =
     let p = start_by turn.era t last turns e in
     no_start turns (t + 1) (begins_at t last turn.era) p.0 ∙ p.1
 
--- where an era begins, the last does so from here on
+-- if an era begins, the last does so from here on
 some_start : (turns : List Turn) (t last : ℕ) → any_era turns ≡ true
     → t ≤ last_start_from t last turns
 some_start [] t last e = absurd cc
@@ -228,10 +232,10 @@ some_start (turn ∷ turns) t last e =
       by (Some era) false m e rest = omega (arith, no_start turns (t + 1) t m)
 
 module _ (plan : Plan) where
-  abbrev holds : Stand → Bool
+  abbrev holds : Snapshot → Bool
   holds stand = is_locked plan stand.faulty stand.config
 
-  lock_is : (turns : List Turn) (stands : List Stand) (known : Option ℕ) (t last : ℕ)
+  lock_is : (turns : List Turn) (stands : List Snapshot) (known : Option ℕ) (t last : ℕ)
       → length stands ≡ length turns
       → lock_over plan known t turns stands
       ≡ cond (any_era turns)
@@ -288,7 +292,7 @@ module _ (plan : Plan) where
           ∙ ap (first_from holds t) (sym here)
           ∙ ap (λ n. first_from holds n (drop (n - t) (stand ∷ stands))) (sym s))
 
-count_stands : (plan : Plan) (stand : Stand) (turns : List Turn)
+count_stands : (plan : Plan) (stand : Snapshot) (turns : List Turn)
     → length (stands_behind plan stand turns) ≡ length turns
 count_stands plan stand [] = refl
 count_stands plan stand (turn ∷ turns) =
@@ -296,7 +300,7 @@ count_stands plan stand (turn ∷ turns) =
 
 -- the first locked configuration of the last era, in either way
 pub locks_are : (c : Certificate) (l : Bool)
-    → is_locked c.plan (first_stand c).faulty (first_stand c).config ≡ l → (stands : List Stand)
+    → is_locked c.plan (first_stand c).faulty (first_stand c).config ≡ l → (stands : List Snapshot)
     → stands_behind c.plan (first_stand c) c.turns ≡ stands
     → lock_over c.plan (first_of None l 0) 1 c.turns stands ≡ locks_at c
 locks_are c l is stands all =
@@ -329,8 +333,8 @@ pub verdict_seen : (c : Certificate) → IsCertificate c → followed (opened c)
 verdict_seen c is =
     let known = nothing_known c.version c.plan c.faulty in
     let placed = put_all known c.starts in
-    let first : Stand = first_stand c in
-    let stands : List Stand = stands_behind c.plan first c.turns in
+    let first : Snapshot = first_stand c in
+    let stands : List Snapshot = stands_behind c.plan first c.turns in
     let same : placed.stand ≡ first = put_all_stand known c.starts in
     let b : Bool = not (same_rows c.row (shown_row c.plan first)) in
     let l : Bool = is_locked c.plan first.faulty first.config in

@@ -29,7 +29,7 @@ line_steps : (stage : Stage) (item : Item) → HasLine item
     → line_step stage (item_line item) ≡ step stage item
 line_steps stage item h = ap (step_by stage) (said_there item h)
 
--- the answer where the lines of these items were read
+-- the answer if the lines of these items were read
 abbrev pub done : Verdict → (taken : ℕ) → List Item → List (List ℕ)
     → Result (Found Verdict) (At (Unit {0}))
 done v taken items behind = Ok (record { value = v; taken = taken + length items; behind = behind })
@@ -94,7 +94,7 @@ reaches stage (item ∷ items) = elim (step stage item) [
   | refuses r ↦ None
 ]
 
--- lines that were refused: those before are of items that lead to a stage, and the next line, where
+-- lines that were refused: those before are of items that lead to a stage, and the next line, if
 -- there is one, is refused there
 pub record Stopped (stage : Stage) (number : ℕ) (lines : List (List ℕ)) (at : At (Unit {0})) : Type
     0 where
@@ -110,12 +110,6 @@ abbrev pub Read : Stage → (taken number : ℕ) → List (List ℕ)
     → Result (Found Verdict) (At (Unit {0})) → Type 0
 Read stage taken number lines (Ok found) = Taken stage taken lines found
 Read stage taken number lines (Err at) = Stopped stage number lines at
-
--- a line, where it says an item
-abbrev ReadBy : Stage → List ℕ → (taken number : ℕ) → (lines : List (List ℕ)) → Option Item → Onward
-    → Type 0
-ReadBy stage line taken number lines found next =
-    Read stage taken number (line ∷ lines) (lines_following next taken number lines)
 
 stop_here : (stage : Stage) (taken number : ℕ) (lines : List (List ℕ)) (at : At (Unit {0}))
     → at.line ≡ number → Stopped stage number lines at

@@ -1,4 +1,4 @@
--- How far the lines behind the head of a certificate were read.
+-- How far the lines after the head of a certificate were read.
 use Rattle.std.specs.Prelude.{◌≡◌, ℕ, ◌≤◌, List, length, Bool, All, ◌<◌, if◌then◌else◌}
 use Rattle.sync_types.specs.States.{State}
 use Rattle.sync_types.specs.FaultSets.{FaultIds}
@@ -7,7 +7,7 @@ use Rattle.state_codec.specs.Shapes.{shape_of}
 use Rattle.state_codec.specs.Packs.{Pack}
 use Rattle.run_checker.specs.Grammar.{pairs_of, most_eras}
 use Rattle.run_checker.specs.Checking.{Known, Stage, putting, telling}
-use Rattle.run_checker.specs.declared.rounds.Room.{Room}
+use Rattle.run_checker.specs.declared.rounds.RoundBuffers.{RoundBuffers}
 use Rattle.run_checker.specs.Rounds.{AreStates, IsReady}
 use Rattle.run_checker.specs.Sets.{no_ids}
 use Rattle.run_checker.specs.Tellings.{Telling, most_pairs}
@@ -27,7 +27,8 @@ stage_of b = if b.is_putting then putting b.known b.unknown b.from else telling 
 -- the configuration is one of the plan, the pairs are those of its faulty nodes, and there is room
 -- for the rounds of any era, with an empty set for each that may still begin
 pub record IsBody (version : ℕ) (plan : Plan) (bad none_known : FaultIds) (pack : Pack)
-    (tellings : Telling) (needed : Room) (spare : List FaultIds) (behind number : ℕ) : Type 0 where
+    (tellings : Telling) (needed : RoundBuffers) (spare : List FaultIds)
+    (behind number : ℕ) : Type 0 where
   pub shape : pack.shape ≡ shape_of plan
   pub faulty : bad.nodes ≡ plan_nodes plan
   pub unknown : none_known.nodes ≡ plan_nodes plan

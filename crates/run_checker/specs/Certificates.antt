@@ -23,7 +23,7 @@ pub record Era : Type 0 where
   pub faulty : List ℕ
   pub starts : List Put
 
--- a round: what was told in it, the era that begins behind it, if one does, and the row behind it,
+-- a round: what was told in it, the era that begins after it, if one does, and the row after it,
 -- None standing for a faulty node
 pub record Turn : Type 0 where
   pub lies : List Lie

@@ -1,4 +1,4 @@
--- What the lines behind the head of a certificate change.
+-- What the lines after the head of a certificate change.
 use Rattle.std.specs.Prelude.{◌≡◌, ℕ, ◌+◌, ◌&&◌, ◌==◌, nat_le, nat_lt, nat_eq, List, [], ◌∷◌, ◌++◌}
 use Rattle.std.specs.Prelude.{length, drop, Bool, true, false, not, Option, Some, None}
 use Rattle.std.specs.Prelude.{slice_index_or, if◌then◌else◌}
@@ -13,7 +13,7 @@ use Rattle.run_checker.specs.Checking.{nothing_known, needs_state, put_state, ha
 use Rattle.run_checker.specs.Checking.{is_next, all_told, moved, is_row, compared}
 use Rattle.run_checker.specs.Bodies.{BodySeen}
 
--- behind the head
+-- after the head
 abbrev pub first_body : (version : ℕ) → Plan → (faulty : List ℕ) → BodySeen
 first_body version plan faulty = record {
   known = nothing_known version plan faulty;
@@ -50,7 +50,7 @@ abbrev pub next_sender : BodySeen → ℕ
 next_sender b =
     (slice_index_or (pairs_in b) (length b.told) (0, 0)).0
 
--- a state more was told, or the digits are those of no state, and nothing changed
+-- another state was told, or the digits are those of no state, and nothing changed
 abbrev pub Tells : (u : ℕ) → (digits : List ℕ) → (old new : BodySeen) → Bool → Type 0
 Tells u digits old new true = (is_state_text (fields_of old.known.plan u) digits ≡ true)
     × (new ≡ record old { told = old.told ++ read_text (fields_of old.known.plan u) digits ∷ [] })
@@ -67,11 +67,11 @@ may_begin b t =
     all_told b.known b.told && nat_eq t (b.known.at + 1)
     && nat_lt b.known.eras (most_eras b.known.version)
 
--- an era more was counted
+-- another era was counted
 abbrev pub era_more : BodySeen → BodySeen
 era_more b = record b { known = record b.known { eras = b.known.eras + 1 } }
 
--- the round that was told was played, and an era begins behind it that was counted
+-- the round that was told was played, and an era begins after it that was counted
 abbrev pub played_into : BodySeen → (faulty : List ℕ) → BodySeen
 played_into b faulty = record {
   known = record (moved b.known faulty b.told) { locked = None };
@@ -111,8 +111,8 @@ Marks None old new false = Unit {0}
 Marks (Some row) old new true = IsMarked row old new
 Marks (Some row) old new false = is_row old.known.plan old.known.stand.faulty row ≡ false
 
--- Whether a row may be next, with the configuration that it is of: where states are put the one
--- that is known, and else the one behind the round that was told.
+-- Whether a row may be next, with the configuration that it is of: if states are put, the one that
+-- is known, and else the one after the round that was told.
 abbrev pub may_row : BodySeen → Bool
 may_row b = if b.is_putting then has_states b else all_told b.known b.told
 
@@ -123,6 +123,6 @@ abbrev pub ComesToRow : (old new : BodySeen) → Bool → Type 0
 ComesToRow old new true = (may_row old ≡ true) × (new ≡ at_row old)
 ComesToRow old new false = may_row old ≡ false
 
--- whether nothing was told behind the last row
+-- whether nothing was told after the last row
 abbrev pub is_at_row : BodySeen → Bool
 is_at_row b = not b.is_putting && length b.told == 0

@@ -20,22 +20,23 @@ use Rattle.texts.specs.Words.{open_rest}
 use Rattle.run_checker.specs.Items.{Item, run_item, base_item, level_item, faulty_item}
 use Rattle.run_checker.specs.Items.{start_item, row_item, lie_item, era_item, end_item, said}
 use Rattle.run_checker.specs.Grammar.{pairs_of, plan_version, most_eras}
-use Rattle.run_checker.specs.Stated.{Stand, Told, stepped, unless_faulty, shown_row, same_rows}
+use Rattle.run_checker.specs.Stated.{Snapshot, Message, stepped, unless_faulty, shown_row}
+use Rattle.run_checker.specs.Stated.{same_rows}
 use Rattle.run_checker.specs.Stated.{verdict_by}
 
 -- Configuration `at` of the stated run, and what its rows came to before it: how many eras have
--- begun behind rounds, the first row that differs, and the first locked configuration of the era.
+-- begun after rounds, the first row that differs, and the first locked configuration of the era.
 pub record Known : Type 0 where
   pub version : ℕ
   pub plan : Plan
   pub eras : ℕ
   pub at : ℕ
-  pub stand : Stand
+  pub stand : Snapshot
   pub differs : Option ℕ
   pub locked : Option ℕ
 
--- How far a certificate was read. Where nodes are put into states, the next one is at least `from`,
--- and none is known of the unknown nodes from there on. Where states are told, these ones were, in
+-- How far a certificate was read. When nodes are put into states, the next one is at least `from`,
+-- and none is known of the unknown nodes from there on. When states are told, these ones were, in
 -- the order of the pairs.
 pub data Stage : Type 0 where
   unread : Stage
@@ -50,7 +51,7 @@ Onward = Next Stage Verdict (Unit {0})
 abbrev pub refused : Onward
 refused = refuses tt
 
--- whether ids are a faulty set that the plan bears
+-- whether ids are a faulty set that the plan tolerates
 abbrev pub is_borne : Plan → List ℕ → Bool
 is_borne plan ids =
     are_below (plan_nodes plan) ids && is_rising ids && nat_le (length ids) (plan_faults plan)
@@ -67,7 +68,7 @@ base_step version base = if is_some (base_premise base) then refused
     else goes
     (planned version (record { version = plan_version version; base = base; levels = [] }))
 
--- whether the spares of a level are said just where the version says them
+-- whether the spares of a level are said exactly if the version says them
 abbrev pub spares_fit : (version : ℕ) → Option ℕ → Bool
 spares_fit version None = not (version == 3)
 spares_fit version (Some s) = version == 3
@@ -129,7 +130,7 @@ same_marks (true ∷ xs) (true ∷ ys) = same_marks xs ys
 same_marks (false ∷ xs) (false ∷ ys) = same_marks xs ys
 same_marks xs ys = false
 
--- a row has no number just for the faulty nodes
+-- exactly the faulty nodes have no number in a row
 abbrev pub is_row : Plan → List ℕ → List (Option ℕ) → Bool
 is_row plan faulty row =
     same_marks (map is_some row)
@@ -145,19 +146,19 @@ compared k row = record k {
 abbrev pub row_fits : Known → (t : ℕ) → List (Option ℕ) → Bool
 row_fits k t row = nat_eq t k.at && is_row k.plan k.stand.faulty row
 
--- whether a row may stand where states are put
+-- whether a row may stand when states are put
 abbrev pub first_row_fits : Known → (unknown : List ℕ) → (from t : ℕ) → List (Option ℕ) → Bool
 first_row_fits k unknown from t row =
     not (needs_state unknown k.stand.faulty from (plan_nodes k.plan)) && row_fits k t row
 
 -- ---- rounds
 
-abbrev pub attributed : (n : ℕ) → (faulty : List ℕ) → List State → List Told
+abbrev pub attributed : (n : ℕ) → (faulty : List ℕ) → List State → List Message
 attributed n faulty states =
     map (λ (pair, state). record { sender = pair.0; receiver = pair.1; state = state })
     (zip (pairs_of n faulty) states)
 
--- the configuration behind a round in which all was told, with these nodes faulty from there on
+-- the configuration after a round in which all was told, with these nodes faulty from there on
 abbrev pub moved : Known → (faulty : List ℕ) → List State → Known
 moved k faulty states = record k {
   at = k.at + 1;
@@ -236,12 +237,12 @@ step_by stage (Some item) = step stage item
 abbrev pub line_step : Stage → List ℕ → Onward
 line_step stage line = step_by stage (said line)
 
--- a verdict behind which nothing stands
+-- a verdict after which nothing stands
 abbrev pub at_end : Verdict → List Item → Option Verdict
 at_end v [] = Some v
 at_end v (item ∷ items) = None
 
--- what reading these items from a stage on comes to, where they end a certificate
+-- what reading these items from a stage on comes to, if they end a certificate
 abbrev pub accepts : Stage → List Item → Option Verdict
 accepts stage [] = None
 accepts stage (item ∷ items) = elim (step stage item) [
@@ -250,7 +251,7 @@ accepts stage (item ∷ items) = elim (step stage item) [
   | refuses r ↦ None
 ]
 
--- nothing may stand behind the last line
+-- nothing may stand after the last line
 abbrev pub unless_followed : Verdict → (taken : ℕ) → List (List ℕ) → Result Verdict ℕ
 unless_followed verdict taken [] = Ok verdict
 unless_followed verdict taken (line ∷ lines) = Err (taken + 1)

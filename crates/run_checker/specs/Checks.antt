@@ -35,14 +35,14 @@ abbrev pub LimitsMatterBeyond : Type 0
 LimitsMatterBeyond = (limit : ℕ) (text : List ℕ) → length text ≤ limit
     → checked_within limit text ≡ unlimited (checked text)
 
--- These bytes do not show what decides a text: if it ended behind them, it would be whole, or be
--- refused at the line that is open, and so at none of their whole lines; and none of them is behind
+-- These bytes do not show what decides a text: if it ended after them, it would be whole, or be
+-- refused at the line that is open, and so at none of their whole lines; and none of them is after
 -- the limit.
 abbrev pub Pending : (limit : ℕ) → List ℕ → Type 0
 Pending limit bytes = TextPending line_step tt unread limit bytes
 
--- The last of these bytes, a buffer at most, were read ahead of the others, which are such. Where
--- the end was met there are none.
+-- The last of these bytes, a buffer at most, were read ahead of the others, which are such. If the
+-- end was met, there are none.
 pub record ReadAhead (ended : Bool) (Are : List ℕ → Type 0) (bytes : List ℕ) : Type 0 where
   pub front : List ℕ
   pub ahead : List ℕ
@@ -52,7 +52,7 @@ pub record ReadAhead (ended : Bool) (Are : List ℕ → Type 0) (bytes : List �
   pub are : Are front
 
 -- What decides is the last byte that was not read ahead, with which a line shows, and no byte
--- before it; or, where the end was met, the end, and no byte.
+-- before it; or, if the end was met, the end, and no byte.
 abbrev pub DecidesAtOnce : (limit : ℕ) (ended : Bool) → List ℕ → Type 0
 DecidesAtOnce limit ended bytes = ReadAhead ended (AtOnce ended (Pending limit)) bytes
 
@@ -64,8 +64,8 @@ pub record IsChecked (limit : ℕ) (old new : Option (List ℕ)) (verdict : Verd
   pub within : length text ≤ limit
   pub is : checked text ≡ Ok verdict
 
--- These bytes were read, and decide that this line is refused, whatever may follow: nothing where
--- the end was met, and then the text is no longer than the limit.
+-- These bytes were read, and decide that this line is refused, whatever may follow: nothing if the
+-- end was met, and then the text is no longer than the limit.
 pub record IsRefused (limit : ℕ) (old new : Option (List ℕ)) (line : ℕ) : Type 0 where
   pub bytes : List ℕ
   pub ended : Bool
@@ -76,7 +76,7 @@ pub record IsRefused (limit : ℕ) (old new : Option (List ℕ)) (line : ℕ) : 
   pub decides : (longer : Bool) (rest : List ℕ) → MayFollow ended longer rest
       → checked_by limit longer (bytes ++ rest) ≡ Err (record { line = line; rule = by tt })
 
--- these bytes were read, one of them behind the limit, and no line up to there is refused
+-- these bytes were read, one of them after the limit, and no line up to there is refused
 pub record IsTooLong (limit : ℕ) (old new : Option (List ℕ)) : Type 0 where
   pub bytes : List ℕ
   pub line : ℕ
@@ -92,8 +92,8 @@ pub record IsLost (limit : ℕ) (old new : Option (List ℕ)) : Type 0 where
   pub read : Consumes old new bytes
   pub pending : Pending limit bytes
 
--- These bytes were read before memory was refused: at the line that one of them ends, or, where
--- none was read, before the first.
+-- These bytes were read before memory was refused: at the line that one of them ends, or, if none
+-- was read, before the first.
 pub record IsHalted (limit : ℕ) (old new : Option (List ℕ)) : Type 0 where
   pub bytes : List ℕ
   pub none : Bool
@@ -109,7 +109,7 @@ Checks limit old new (Err check.TooLong) = IsTooLong limit old new
 Checks limit old new (Err check.ReadFault) = IsLost limit old new
 Checks limit old new (Err check.NoMemory) = IsHalted limit old new
 
--- only a read fault is counted, and one
+-- only a read fault is counted, and just one
 abbrev pub HasCheckCause : (before now : ℕ) → Result Verdict CheckError → Type 0
 HasCheckCause before now (Err check.ReadFault) = Counted before now
 HasCheckCause before now (Ok verdict) = now ≡ before

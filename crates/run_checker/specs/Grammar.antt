@@ -17,7 +17,7 @@ use Rattle.run_checker.specs.Certificates.{Put, Era, Turn, Certificate, items_of
 abbrev pub pairs_of : (n : ℕ) → (faulty : List ℕ) → List (ℕ × ℕ)
 pairs_of n faulty = flat_map (λ u. map (λ v. (u, v)) (correct_nodes n faulty)) faulty
 
--- States of correct nodes in rising order. Each correct node has one of which none is known.
+-- States of correct nodes in rising order. Each correct node of which none is known has one.
 pub record AreStarts (plan : Plan) (unknown faulty : List ℕ) (starts : List Put) : Type 0 where
   pub rising : IsStrictlyIncreasing (map (λ put. put.node) starts)
   pub nodes : All (λ put. put.node < plan_nodes plan) starts
@@ -26,16 +26,16 @@ pub record AreStarts (plan : Plan) (unknown faulty : List ℕ) (starts : List Pu
       → is_in (map (λ put. put.node) starts) v ≡ true
   pub states : All (λ put. is_state_text (fields_of plan put.node) put.digits ≡ true) starts
 
--- a row has no number just for the faulty nodes
+-- exactly the faulty nodes have no number in a row
 pub record IsRow (plan : Plan) (faulty : List ℕ) (row : List (Option ℕ)) : Type 0 where
   pub size : map is_some row ≡ map (λ v. not (is_in faulty v)) (range_with_len 0 (plan_nodes plan))
 
--- the faulty nodes behind a round
+-- the faulty nodes after a round
 abbrev pub faulty_behind : List ℕ → Option Era → List ℕ
 faulty_behind faulty None = faulty
 faulty_behind faulty (Some era) = era.faulty
 
--- an era behind a round with these faulty nodes
+-- an era after a round with these faulty nodes
 pub record IsEra (plan : Plan) (before : List ℕ) (era : Era) : Type 0 where
   pub borne : IsBorne plan era.faulty
   pub starts : AreStarts plan before era.faulty era.starts
@@ -56,7 +56,7 @@ AreTurns plan faulty (turn ∷ turns) =
 abbrev pub plan_version : ℕ → ℕ
 plan_version version = if version == 3 then 2 else 1
 
--- how many eras may begin behind rounds
+-- how many eras may begin after rounds
 abbrev pub most_eras : ℕ → ℕ
 most_eras version = if version == 1 then 0 else 16
 

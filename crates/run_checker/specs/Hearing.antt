@@ -23,7 +23,7 @@ pub record Lays (from to : ℕ) (put : ℕ → State) (old new : List State) : T
   pub behind : (j : ℕ) → to ≤ j → state_of new j ≡ state_of old j
 
 -- at the places of a stretch stands what node v hears of the faulty nodes, in the order of their
--- ids, and where it is faulty its own state at its place
+-- ids, and if it is faulty, its own state at its place
 pub record LaysHeard (plan : Plan) (faulty : List ℕ) (said config : List State) (v from to : ℕ)
     (old new : List State) : Type 0 where
   pub size : length new ≡ length old

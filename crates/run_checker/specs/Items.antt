@@ -7,7 +7,7 @@ use Rattle.std.specs.Str.{bytes_eq}
 use Rattle.texts.specs.Lines.{words_of}
 use Rattle.texts.specs.Numbers.{number_of}
 use Rattle.state_codec.specs.Texts.{is_lower_digit}
-use Rattle.adversary_script.specs.WordTests.{numbers_in}
+use Rattle.texts.specs.Shapes.{all_numbers}
 use Rattle.texts.specs.Words.{joined}
 
 pub data Item : Type 0 where
@@ -132,7 +132,7 @@ row_said (t ∷ words) = row_by (number_of t) (values_said words)
 
 abbrev pub era_said : List (List ℕ) → Option Item
 era_said [] = None
-era_said (t ∷ words) = era_by (number_of t) (numbers_in words)
+era_said (t ∷ words) = era_by (number_of t) (all_numbers words)
 
 abbrev pub end_said : List (List ℕ) → Option Item
 end_said [] = Some end_item
@@ -146,7 +146,7 @@ item_of (key ∷ words) =
     else if bytes_eq key (codes "start") then start_said words
     else if bytes_eq key (codes "era") then era_said words
     else if bytes_eq key (codes "end") then end_said words
-    else if bytes_eq key (codes "faulty") then option_map faulty_item (numbers_in words)
+    else if bytes_eq key (codes "faulty") then option_map faulty_item (all_numbers words)
     else if bytes_eq key (codes "level") then level_said words
     else if bytes_eq key (codes "base") then one_said base_item words
     else if bytes_eq key (codes "run") then one_said run_item words

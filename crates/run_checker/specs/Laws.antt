@@ -11,7 +11,7 @@ use Rattle.run_checker.specs.declared.Verdict.TheVariants as verdict
 use Rattle.texts.specs.Lines.{whole_lines}
 use Rattle.run_checker.specs.Certificates.{Turn, Certificate, certificate_text}
 use Rattle.run_checker.specs.Grammar.{IsCertificate, AreFirstLines}
-use Rattle.run_checker.specs.Stated.{Stand, stand_behind, first_stand, stands_behind, stated}
+use Rattle.run_checker.specs.Stated.{Snapshot, stand_behind, first_stand, stands_behind, stated}
 use Rattle.run_checker.specs.Stated.{rows_of, verdict_of}
 use Rattle.run_checker.specs.Checking.{checked}
 
@@ -22,7 +22,7 @@ pub record IsOf (text : List ℕ) (verdict : Verdict) : Type 0 where
   pub text_is : text ≡ certificate_text certificate
   pub comes_to : verdict ≡ verdict_of certificate
 
--- with one line more, the lines are not the first of a certificate
+-- with one more line, the lines are not the first of a certificate
 abbrev pub Stops : (front rest : List (List ℕ)) → Type 0
 Stops front [] = Unit {0}
 Stops front (line ∷ lines) = AreFirstLines (front ++ line ∷ []) → ⊥
@@ -53,17 +53,17 @@ CertificatesAreChecked =
 
 -- ---- the stated run
 
--- behind these rounds no era begins
+-- after these rounds no era begins
 abbrev pub AreQuiet : List Turn → Type 0
 AreQuiet turns = All (λ turn. turn.era ≡ None) turns
 
--- the configuration behind rounds
-abbrev pub stand_after : Plan → Stand → List Turn → Stand
+-- the configuration after rounds
+abbrev pub stand_after : Plan → Snapshot → List Turn → Snapshot
 stand_after plan stand [] = stand
 stand_after plan stand (turn ∷ turns) = stand_after plan (stand_behind plan stand turn) turns
 
--- Each stretch of rounds behind which no era begins is a run of the plan, with the faulty nodes
--- that the stretch begins with; the lies of each round are the stated ones.
+-- Each stretch of rounds after which no era begins is a run of the plan, with the faulty nodes that
+-- the stretch begins with; the lies of each round are the stated ones.
 abbrev pub StretchesAreRuns : Type 0
 StretchesAreRuns =
     (c : Certificate) → IsCertificate c → (before stretch after : List Turn)
@@ -100,7 +100,7 @@ TrueRowsCount =
 
 -- ---- the last era
 
--- there are no rounds, or an era begins behind the last of them
+-- there are no rounds, or an era begins after the last of them
 abbrev pub EndWithEra : List Turn → Type 0
 EndWithEra [] = ⊤
 EndWithEra (turn ∷ []) = IsSome turn.era
@@ -123,14 +123,14 @@ pub record IsLockedFirst (c : Certificate) (from t : ℕ) : Type 0 where
   pub locked : LockedAt c t
   pub first : NoneLocked c from t
 
--- the first locked one of the configurations from `from` on; none, where none of them is
+-- the first locked one of the configurations from `from` on; none, if none of them is
 abbrev pub IsFirstLocked : Certificate → (from : ℕ) → Option ℕ → Type 0
 IsFirstLocked c from (Some t) = IsLockedFirst c from t
 IsFirstLocked c from None = NoneLocked c from (length c.turns + 1)
 
--- What is locked first is the first locked configuration of the last era, which begins behind the
--- rounds before the last stretch. The rows count from there to the end; and where that era is as
--- long as the bound it is locked by then.
+-- What is locked first is the first locked configuration of the last era, which begins after the
+-- rounds before the last stretch. The rows count from there to the end; and if that era is as long
+-- as the bound, it is locked by then.
 pub record LastEraLocks (c : Certificate) (locked : Option ℕ) : Type 0 where
   pub before : List Turn
   pub stretch : List Turn

@@ -7,7 +7,7 @@ use Rattle.counter_core.specs.declared.overlays.NoOverlay.{NoOverlay}
 use Rattle.counter_core.specs.NoLayers.{no_layer}
 use Rattle.adversary_script.specs.Scripts.{Script, IsScript}
 use Rattle.adversary_script.specs.Eras.{faulty_at}
-use Rattle.round_runner.specs.Beginnings.{BeginsAt}
+use Rattle.machine_runner.specs.Beginnings.{BeginsAt}
 use Rattle.round_runner.specs.Played.{played_at}
 use Rattle.round_runner.specs.Runners.{Running, IsPlaying}
 
@@ -52,7 +52,7 @@ pub record HasPlayedAll (old new : Running NoOverlay) : Type 0 where
   pub at : new.at ≡ old.script.rounds
   pub states : new.states ≡ played_at old.plan old.script old.script.rounds
 
--- it has played a round more
+-- it has played one more round
 pub record HasPlayedOne (old new : Running NoOverlay) : Type 0 where
   pub plan : new.plan ≡ old.plan
   pub script : new.script ≡ old.script

@@ -19,12 +19,12 @@ use Rattle.run_checker.specs.declared.Verdict.TheVariants as verdict
 use Rattle.run_checker.specs.NodeFields.{fields_of}
 use Rattle.run_checker.specs.Certificates.{Put, Lie, Era, Turn, Certificate}
 use Rattle.run_checker.specs.Grammar.{pairs_of, IsCertificate}
-use Rattle.run_checker.specs.Stated.{Stand, told_by, told_of, stated, shown_row}
+use Rattle.run_checker.specs.Stated.{Snapshot, told_by, told_of, stated, shown_row}
 use Rattle.run_checker.specs.Stated.{first_difference, verdict_of}
 
 module _ (plan : Plan) (s : Script) where
   -- configuration t, with its faulty nodes
-  abbrev pub stand_at : ℕ → Stand
+  abbrev pub stand_at : ℕ → Snapshot
   stand_at t = record { faulty = faulty_at s t; config = played_at plan s t }
 
   -- node v in its state of configuration t
@@ -42,14 +42,14 @@ module _ (plan : Plan) (s : Script) where
     digits = written_text (fields_of plan u) (lie_of s t u v (played_at plan s t));
   }
 
-  -- whether the state of node v is stated where an era begins at configuration t + 1: it is correct
+  -- whether the state of node v is stated when an era begins at configuration t + 1: it is correct
   -- there, and was faulty before, or the era puts it into a state
   abbrev pub is_put : (t v : ℕ) → Bool
   is_put t v =
       not (is_in (faulty_at s (t + 1)) v)
       && (is_in (faulty_at s t) v || is_some (hit_at s (t + 1) v))
 
-  -- the states that are put where an era begins at configuration t + 1
+  -- the states that are put when an era begins at configuration t + 1
   abbrev pub puts_at : (t : ℕ) → List Put
   puts_at t = map (put_at (t + 1)) (filter (is_put t) (range_with_len 0 (plan_nodes plan)))
 
@@ -57,11 +57,11 @@ module _ (plan : Plan) (s : Script) where
   era_with t None = None
   era_with t (Some era) = Some (record { faulty = era.faulty; starts = puts_at t })
 
-  -- the era that begins at configuration t, where one does
+  -- the era that begins at configuration t, if one does
   abbrev pub era_at : ℕ → Option scripts.Era
   era_at t = find (λ era. era.first == t) s.eras
 
-  -- round t, and what stands behind it
+  -- round t, and what stands after it
   abbrev pub turn_at : ℕ → Turn
   turn_at t = record {
     lies = map (lie_at t) (pairs_of (plan_nodes plan) (faulty_at s t));
@@ -109,9 +109,9 @@ RecordsAreTrue = (plan : Plan) (s : Script) → IsReadFor plan s → HasItsEras 
 pub record IsOfRun (plan : Plan) (s : Script) : Type 0 where
   pub of_plan : (certificate_of plan s).plan ≡ plan
   pub rounds : length (certificate_of plan s).turns ≡ s.rounds
-  pub faulty : (t : ℕ) (d : Stand) → t ≤ s.rounds
+  pub faulty : (t : ℕ) (d : Snapshot) → t ≤ s.rounds
       → (slice_index_or (stated (certificate_of plan s)) t d).faulty ≡ faulty_at s t
-  pub states : (t v : ℕ) (d : Stand) → t ≤ s.rounds → v < plan_nodes plan
+  pub states : (t v : ℕ) (d : Snapshot) → t ≤ s.rounds → v < plan_nodes plan
       → is_in (faulty_at s t) v ≡ false
       → state_of (slice_index_or (stated (certificate_of plan s)) t d).config v
       ≡ state_of (played_at plan s t) v

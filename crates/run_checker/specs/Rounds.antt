@@ -11,10 +11,10 @@ use Rattle.state_codec.specs.Packs.{Pack}
 use Rattle.shared_board.specs.Sharing.{stands_for}
 use Rattle.run_checker.specs.Grammar.{pairs_of}
 use Rattle.plan_laws.specs.PlanMeaning.{IsInRange}
-use Rattle.run_checker.specs.declared.rounds.Room.{Room}
+use Rattle.run_checker.specs.declared.rounds.RoundBuffers.{RoundBuffers}
 use Rattle.run_checker.specs.Tellings.{Telling}
 
--- what u tells v: the state told for the first pair of both, or the zero state where there is none
+-- what u tells v: the state told for the first pair of both, or the zero state if there is none
 abbrev pub told_for : (depth : ℕ) → List (ℕ × ℕ) → List State → (u v : ℕ) → State
 told_for depth [] states u v = zero_state depth
 told_for depth (pair ∷ pairs) [] u v = zero_state depth
@@ -26,14 +26,14 @@ abbrev pub told_table : (n depth : ℕ) → List (ℕ × ℕ) → List State →
 told_table n depth pairs told =
     map (λ u. map (λ v. told_for depth pairs told u v) (range_with_len 0 n)) (range_with_len 0 n)
 
--- the state of node v behind a round
+-- the state of node v after a round
 abbrev pub stepped_at : Plan → (faulty : List ℕ) → List State → List (ℕ × ℕ) → List State → (v : ℕ)
     → State
 stepped_at plan faulty config pairs told v =
     step_of plan v (heard_by (plan_nodes plan) faulty config
     (told_table (plan_nodes plan) (plan_depth plan) pairs told) v)
 
--- the configuration behind a round, with the new faulty nodes in the zero state
+-- the configuration after a round, with the new faulty nodes in the zero state
 abbrev pub stepped_all : Plan → (faulty new : List ℕ) → List State → List (ℕ × ℕ) → List State
     → List State
 stepped_all plan faulty new config pairs told =
@@ -41,7 +41,7 @@ stepped_all plan faulty new config pairs told =
     else stepped_at plan faulty config pairs told v)
     (range_with_len 0 (plan_nodes plan))
 
--- the state of node v in it, where its faulty nodes tell all that they have to
+-- the state of node v in it, if its faulty nodes tell all that they have to
 abbrev pub state_next : Plan → (faulty new : List ℕ) → (config told : List State) → (v : ℕ) → State
 state_next plan faulty new config told v =
     if is_in new v then zero_state (plan_depth plan)
@@ -53,7 +53,7 @@ pub record AreStates (plan : Plan) (states : List State) : Type 0 where
   pub range : All (IsInRange plan) states
 
 -- the room that rounds of a plan need: as many may lie as there are nodes
-pub record IsReady (plan : Plan) (room : Room) : Type 0 where
+pub record IsReady (plan : Plan) (room : RoundBuffers) : Type 0 where
   pub size : length room.lies.items ≡ plan_nodes plan
   pub lies : AreStates plan room.lies.items
   pub zero : room.zero ≡ zero_state (plan_depth plan)
@@ -74,7 +74,7 @@ pub record IsConfig (plan : Plan) (config : Pack) : Type 0 where
 
 -- and the room is ready, and has counted the correct nodes in it; what the others tell are states
 pub record IsGathered (plan : Plan) (faulty : List ℕ) (told : List State) (config : Pack)
-    (room : Room) : Type 0 where
+    (room : RoundBuffers) : Type 0 where
   pub said : AreStates plan told
   pub is : IsConfig plan config
   pub ready : IsReady plan room

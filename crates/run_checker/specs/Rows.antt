@@ -16,20 +16,20 @@ module _ (depth : ℕ) (faulty : List ℕ) (config : List State) where
   abbrev pub shown_at : ℕ → Option ℕ
   shown_at v = if is_in faulty v then None else Some (shown depth (state_of config v))
 
-  -- whether a row of the m nodes from v on is what they show; None where it has not a number just
-  -- for each correct one
+  -- whether a row of the m nodes from v on is what they show; None if it does not have a number for
+  -- exactly the correct ones
   abbrev pub compared_from : (v m : ℕ) → List (Option ℕ) → Option Bool
   compared_from v m row =
       if same_marks (map is_some row) (map (λ v. not (is_in faulty v)) (range_with_len v m))
       then Some (same_rows row (map shown_at (range_with_len v m)))
       else None
 
-  -- the same of all n nodes, where the words say a row
+  -- the same of all n nodes, if the words say a row
   abbrev pub row_compared : (n : ℕ) → Option (List (Option ℕ)) → Option Bool
   row_compared n None = None
   row_compared n (Some row) = compared_from 0 n row
 
--- whether a word says what its node shows; None where just one of both has a number
+-- whether a word says what its node shows; None if just one of the two has a number
 abbrev pub value_compared : (said shown : Option ℕ) → Option Bool
 value_compared None None = Some true
 value_compared (Some a) (Some b) = Some (nat_eq a b)
@@ -44,7 +44,7 @@ behind_word None behind = None
 behind_word (Some same) behind = behind same
 
 module _ (depth : ℕ) (faulty : List ℕ) (config : List State) where
-  -- the words of the m nodes from v on, where those before were the same or not
+  -- the words of the m nodes from v on, after words that were the same or not
   abbrev pub words_compared : (v m : ℕ) → (same : Bool) → List (List ℕ) → Option Bool
   words_compared v zero same [] = Some same
   words_compared v zero same (w ∷ ws) = None

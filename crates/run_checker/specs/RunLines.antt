@@ -112,14 +112,14 @@ module _ (s : Script) where
 -- ---- eras
 
 module _ (plan : Plan) (s : Script) where
-  -- the state of node v, where an era begins at configuration t + 1 and its state is stated there
+  -- the state of node v, if an era begins at configuration t + 1 and its state is stated there
   abbrev pub start_if : (t : ℕ) → List State → ℕ → List ℕ
   start_if t config v = if is_put plan s t v then start_text s config v else []
 
   abbrev pub starts_text : (t : ℕ) → List State → List ℕ
   starts_text t config = flat_map (start_if t config) (range_with_len 0 (plan_nodes plan))
 
-  -- the lines of the era that begins at configuration t + 1, where one does
+  -- the lines of the era that begins at configuration t + 1, if one does
   abbrev pub era_lines : (t : ℕ) → List State → Option scripts.Era → List ℕ
   era_lines t config None = []
   era_lines t config (Some era) =
@@ -127,7 +127,7 @@ module _ (plan : Plan) (s : Script) where
 
   -- ---- rounds
 
-  -- what is written of round t: what is told in it, the era that begins behind it, and the row
+  -- what is written of round t: what is told in it, the era that begins after it, and the row
   abbrev pub turn_text : ℕ → List ℕ
   turn_text t = concat (
       lies_text s (plan_nodes plan) t (played_at plan s t)

@@ -5,30 +5,30 @@ use Rattle.std.specs.Str.{bytes_eq}
 use Rattle.std.specs.Option.{option_map}
 use Rattle.texts.specs.Numbers.{number_of}
 use Rattle.state_codec.specs.Texts.{is_lower_digit}
-use Rattle.adversary_script.specs.WordTests.{numbers_in}
+use Rattle.texts.specs.Shapes.{all_numbers}
 use Rattle.run_checker.specs.Items.{Item, run_item, base_item, level_item, faulty_item}
 use Rattle.run_checker.specs.Items.{start_item, lie_item, end_item, values_said, row_by}
 use Rattle.run_checker.specs.Items.{era_by}
 use Rattle.run_checker.specs.declared.said_lines.Said.{Said}
 use Rattle.run_checker.specs.declared.said_lines.Said.TheVariants as said
 
--- a state that is put or told, where the word of it is of digits
+-- a state that is put or told, if its word is of digits
 abbrev pub start_by : (v : ℕ) → (digits : List ℕ) → Option Item
 start_by v digits = if list_all is_lower_digit digits then Some (start_item v digits) else None
 
 abbrev pub lie_by : (u v : ℕ) → (digits : List ℕ) → Option Item
 lie_by u v digits = if list_all is_lower_digit digits then Some (lie_item u v digits) else None
 
--- the item that is said, where the words that are left say what they have to
+-- the item that is said, if the words that are left say what they have to
 abbrev pub item_seen : Said → Option Item
 item_seen (said.Run version) = Some (run_item version)
 item_seen (said.Base base) = Some (base_item base)
 item_seen (said.Level k f c spares) = Some (level_item k f c spares)
-item_seen (said.Faulty words) = option_map faulty_item (numbers_in words)
+item_seen (said.Faulty words) = option_map faulty_item (all_numbers words)
 item_seen (said.Start v digits) = start_by v digits.now
 item_seen (said.Row t words) = row_by (Some t) (values_said words)
 item_seen (said.Lie u v digits) = lie_by u v digits.now
-item_seen (said.Era t words) = era_by (Some t) (numbers_in words)
+item_seen (said.Era t words) = era_by (Some t) (all_numbers words)
 item_seen said.End = Some end_item
 
 abbrev pub item_or_none : Option Said → Option Item
@@ -42,7 +42,7 @@ abbrev pub only_number : List (List ℕ) → Option ℕ
 only_number (a ∷ []) = number_of a
 only_number other = None
 
--- the spares that stand behind a level
+-- the spares that stand after a level
 abbrev pub spares_in : List (List ℕ) → Option (Option ℕ)
 spares_in [] = Some None
 spares_in (key ∷ s ∷ []) =

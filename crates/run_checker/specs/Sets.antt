@@ -15,7 +15,7 @@ GivesSet nodes ids (Ok set) = set ≡ record { nodes = nodes; ids = ids }
 abbrev pub is_borne_by : (nodes faults : ℕ) → List ℕ → Bool
 is_borne_by nodes faults ids = are_below nodes ids && is_rising ids && nat_le (length ids) faults
 
--- the ids of numbers, where they are those of such a set
+-- the ids of numbers, if they are those of such a set
 abbrev pub borne_ids : (nodes faults : ℕ) → Option (List ℕ) → Option (List ℕ)
 borne_ids nodes faults None = None
 borne_ids nodes faults (Some ids) = if is_borne_by nodes faults ids then Some ids else None

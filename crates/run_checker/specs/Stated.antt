@@ -18,36 +18,36 @@ use Rattle.run_checker.specs.Certificates.{Put, Lie, Era, Turn, Certificate}
 use Rattle.run_checker.specs.Grammar.{faulty_behind}
 
 -- a configuration of the run, with its faulty nodes
-pub record Stand : Type 0 where
+pub record Snapshot : Type 0 where
   pub faulty : List ℕ
   pub config : List State
 
 -- what a sender tells a receiver
-pub record Told : Type 0 where
+pub record Message : Type 0 where
   pub sender : ℕ
   pub receiver : ℕ
   pub state : State
 
-abbrev pub told_by : Plan → Lie → Told
+abbrev pub told_by : Plan → Lie → Message
 told_by plan lie = record {
   sender = lie.sender;
   receiver = lie.receiver;
   state = read_text (fields_of plan lie.sender) lie.digits;
 }
 
--- what u tells v; where nothing is said, the zero state
-abbrev pub told_of : Plan → List Told → (u v : ℕ) → State
+-- what u tells v; if nothing is said, the zero state
+abbrev pub told_of : Plan → List Message → (u v : ℕ) → State
 told_of plan told u v =
     unwrap_or (option_map (λ t. t.state) (find (λ t. t.sender == u && t.receiver == v) told))
     (zero_state (plan_depth plan))
 
 -- the table of what is told
-abbrev pub lies_table : Plan → List Told → List (List State)
+abbrev pub lies_table : Plan → List Message → List (List State)
 lies_table plan told =
     map (λ u. map (λ v. told_of plan told u v) (range_with_len 0 (plan_nodes plan)))
     (range_with_len 0 (plan_nodes plan))
 
--- what faulty nodes are said to be in is nothing: they stand in the zero state
+-- whatever faulty nodes are said to be in, they stand in the zero state
 abbrev pub unless_faulty : Plan → List ℕ → (ℕ → State) → List State
 unless_faulty plan faulty state =
     map (λ v. if is_in faulty v then zero_state (plan_depth plan) else state v)
@@ -64,14 +64,14 @@ abbrev pub starts_of : Option Era → List Put
 starts_of None = []
 starts_of (Some era) = era.starts
 
--- the configuration behind a round: each correct node steps from what it hears
-abbrev pub stepped : Plan → (new_faulty : List ℕ) → Stand → List Told → List State
+-- the configuration after a round: each correct node steps from what it hears
+abbrev pub stepped : Plan → (new_faulty : List ℕ) → Snapshot → List Message → List State
 stepped plan new stand told =
     unless_faulty plan new
     (λ v. step_of plan v
     (heard_by (plan_nodes plan) stand.faulty stand.config (lies_table plan told) v))
 
-abbrev pub stand_behind : Plan → Stand → Turn → Stand
+abbrev pub stand_behind : Plan → Snapshot → Turn → Snapshot
 stand_behind plan stand turn = record {
   faulty = faulty_behind stand.faulty turn.era;
   config =
@@ -80,7 +80,7 @@ stand_behind plan stand turn = record {
       (starts_of turn.era);
 }
 
-abbrev pub first_stand : Certificate → Stand
+abbrev pub first_stand : Certificate → Snapshot
 first_stand c =
     record {
       faulty = c.faulty;
@@ -88,18 +88,18 @@ first_stand c =
           (unless_faulty c.plan c.faulty (λ v. zero_state (plan_depth c.plan))) c.starts;
     }
 
--- the configurations behind one
-abbrev pub stands_behind : Plan → Stand → List Turn → List Stand
+-- the configurations after one
+abbrev pub stands_behind : Plan → Snapshot → List Turn → List Snapshot
 stands_behind plan stand [] = []
 stands_behind plan stand (turn ∷ turns) =
     stand_behind plan stand turn ∷ stands_behind plan (stand_behind plan stand turn) turns
 
 -- the stated run: its configurations, each with its faulty nodes
-abbrev pub stated : Certificate → List Stand
+abbrev pub stated : Certificate → List Snapshot
 stated c = first_stand c ∷ stands_behind c.plan (first_stand c) c.turns
 
 -- the row that a configuration shows
-abbrev pub shown_row : Plan → Stand → List (Option ℕ)
+abbrev pub shown_row : Plan → Snapshot → List (Option ℕ)
 shown_row plan stand =
     map (λ v. if is_in stand.faulty v then None
     else Some (shown (plan_depth plan) (state_of stand.config v)))
@@ -114,12 +114,12 @@ same_rows (x ∷ xs) (y ∷ ys) = option_eq nat_eq x y && same_rows xs ys
 same_rows xs ys = false
 
 -- for each row, whether it differs from what its configuration shows
-abbrev pub differences : Plan → List (List (Option ℕ)) → List Stand → List Bool
+abbrev pub differences : Plan → List (List (Option ℕ)) → List Snapshot → List Bool
 differences plan (row ∷ rows) (stand ∷ stands) =
     not (same_rows row (shown_row plan stand)) ∷ differences plan rows stands
 differences plan rows stands = []
 
--- the number of the first that passes, where the first of the list has this number
+-- the number of the first that passes, if the first of the list has this number
 abbrev pub first_from : {X : Type 0} → (X → Bool) → ℕ → List X → Option ℕ
 first_from p n [] = None
 first_from p n (x ∷ xs) = if p x then Some n else first_from p (n + 1) xs
@@ -127,8 +127,7 @@ first_from p n (x ∷ xs) = if p x then Some n else first_from p (n + 1) xs
 abbrev pub first_difference : Certificate → Option ℕ
 first_difference c = first_from (λ b. b) 0 (differences c.plan (rows_of c) (stated c))
 
--- the last configuration at which an era begins, where row t is next and the last one so far is
--- known
+-- the last configuration at which an era begins, if row t is next and the last one so far is known
 abbrev pub begins_at : (t last : ℕ) → Option Era → ℕ
 begins_at t last None = last
 begins_at t last (Some era) = t
@@ -150,6 +149,6 @@ abbrev pub verdict_by : (differs : Option ℕ) → (rows : ℕ) → (locked : Op
 verdict_by (Some t) rows locked = verdict.False t
 verdict_by None rows locked = verdict.True rows locked
 
--- what a certificate comes to: true where each row is what its configuration shows
+-- what a certificate comes to: true if each row is what its configuration shows
 abbrev pub verdict_of : Certificate → Verdict
 verdict_of c = verdict_by (first_difference c) (length c.turns + 1) (locks_at c)

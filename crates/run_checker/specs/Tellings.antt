@@ -42,7 +42,7 @@ pub record IsTelling (shape : Shape) (pairs : List (ℕ × ℕ)) (texts : List (
 abbrev pub next_fields : Telling → Fields
 next_fields t = fields_at t.shape (slice_index_or t.pairs (length t.states) (0, 0)).0
 
--- a state more was told, or the digits are those of no state, and nothing changed
+-- another state was told, or the digits are those of no state, and nothing changed
 abbrev pub AddsState : (digits : List ℕ) → (old new : Telling) → Bool → Type 0
 AddsState digits old new true = (is_state_text (next_fields old) digits ≡ true)
     × (new ≡ record old { states = old.states ++ read_text (next_fields old) digits ∷ [] })

@@ -15,8 +15,8 @@ use Rattle.run_checker.specs.Laws.{AreQuiet, StretchCounts, stand_after}
 use Rattle.run_checker.specs.Checking.{checked}
 use Rattle.run_checker.specs.Checks.{checked_within}
 
--- A stretch of rounds behind which no era begins is a run of the plan, with the stated lies, and
--- its rows count from the plan's bound on, which is counted from its first configuration.
+-- A stretch of rounds after which no era begins is a run of the plan, with the stated lies, and its
+-- rows count from the plan's bound on, which is counted from its first configuration.
 pub record IsTrueStretch (c : Certificate) (before stretch : List Turn) : Type 0 where
   pub run : Run c.plan (stand_after c.plan (first_stand c) before).faulty
       (map (λ stand. stand.config) (stand_after c.plan (first_stand c) before

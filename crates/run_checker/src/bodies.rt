@@ -3,7 +3,7 @@ ghost use Rattle.run_checker.specs.Grammar.{most_eras};
 
 use crate::Verdict;
 use crate::id_lists::{all_nodes, empty_sets, most_eras, needs_state, read_ids};
-use crate::rounds::{Room, play, room_for};
+use crate::rounds::{RoundBuffers, play, room_for};
 use crate::tellings::Tellings;
 use counter_core::Counter;
 use edge_io::{TakeError, Words};
@@ -18,8 +18,8 @@ use tower::{Tower, build};
 /// The most rounds that a certificate has.
 const MOST_ROUNDS: u64 = 1_000_000;
 
-/// What was read behind the head of a certificate: the configuration that its lines have come to.
-/// It has all the memory that it ever needs.
+/// What was read after the head of a certificate: the configuration that its lines have come to. It
+/// has all the memory that it ever needs.
 pub struct Body {
     pub(crate) version: u32,
     pub(crate) tower: Tower,
@@ -27,7 +27,7 @@ pub struct Body {
     pub(crate) unknown: FaultSet,
     pub(crate) config: Packed,
     pub(crate) tellings: Tellings,
-    pub(crate) room: Room,
+    pub(crate) room: RoundBuffers,
     pub(crate) is_putting: bool,
     pub(crate) from: u32,
     // An empty set for each era that may still begin.
@@ -37,7 +37,7 @@ pub struct Body {
     pub(crate) locked: Option<u64>,
 }
 
-// Written out, so that what lets go of one calls this, and no more.
+// Written out, so that code that drops one has a single call.
 impl Drop for Body {
     fn drop(self) {
         let Body {
@@ -96,7 +96,7 @@ impl Body {
     ghost use Rattle.std.specs.Prelude.{true, Some, IfOk, nat_lt};
     ghost use Rattle.construction.specs.Plans.{plan_nodes, plan_faults};
     ghost use Rattle.edge_io.specs.Taking.{Takes};
-    ghost use Rattle.adversary_script.specs.WordTests.{numbers_in};
+    ghost use Rattle.texts.specs.Shapes.{all_numbers};
     ghost use Rattle.run_checker.specs.Items.{start_item, lie_item, era_by};
     ghost use Rattle.run_checker.specs.Checking.{has_round, all_told, step, step_by};
     ghost use Rattle.run_checker.specs.Bodies.{stage_of};
@@ -106,15 +106,15 @@ impl Body {
     ghost use Rattle.run_checker.specs.Changes.{may_tell, next_sender, Tells, played_on, may_begin};
     ghost use Rattle.run_checker.specs.Changes.{era_more, played_into};
 
-    /// What is known behind the head: the plan and its faulty nodes. It takes all the memory that
+    /// What is known after the head: the plan and its faulty nodes. It takes all the memory that
     /// the rounds of all eras need.
     pub fn new(alloc: Global, version: u32, plan: &Plan, faulty: FaultSet) -> Result<Body, NoMemory>
         requires nodes { faulty.nodes ≡ plan_nodes plan.now }
         requires few { length faulty.ids ≤ plan_faults plan.now }
         ensures { IfOk result (λ body. body ≡ first_body version plan.now faulty.ids) }
     {
-        plan.tell();
-        faulty.tell();
+        plan.facts();
+        faulty.facts();
         let tower = build(alloc, plan)?;
         let shape = StateShape::of(alloc, plan)?;
         let unknown = all_nodes(alloc, plan.nodes())?;
@@ -160,7 +160,7 @@ impl Body {
         !self.faulty.contains(v) && !needs_state(&self.unknown, &self.faulty, self.from, v)
     }
 
-    /// Puts node `v` into the state of these digits; false where they are those of no state of it.
+    /// Puts node `v` into the state of these digits; false if they are those of no state of it.
     fn put(&mut self, v: u32, digits: &[u8]) -> bool
         requires { v < plan_nodes self.old.known.plan }
         ensures { Puts v digits.now self.old self.new result }
@@ -213,8 +213,8 @@ impl Body {
         self.has_round() && self.tellings.is_next(sender, receiver)
     }
 
-    /// Takes what the sender of the next pair tells; false where the digits are those of no state
-    /// of it.
+    /// Takes what the sender of the next pair tells; false if the digits are those of no state of
+    /// it.
     fn tell_state(&mut self, digits: &[u8]) -> bool
         requires node { next_sender self.old < plan_nodes self.old.known.plan }
         requires more { length self.old.told < length (pairs_in self.old) }
@@ -259,7 +259,7 @@ impl Body {
             return false;
         }
         self.tower.tell();
-        self.faulty.tell();
+        self.faulty.facts();
         match self.tellings.digits_in(line) {
             Some(digits) => self.tell_state(digits),
             None => false,
@@ -273,7 +273,7 @@ impl Body {
         self.has_round() && self.tellings.is_whole()
     }
 
-    /// Makes the steps of the round that was told, with the same faulty nodes behind it.
+    /// Makes the steps of the round that was told, with the same faulty nodes after it.
     pub(crate) fn play(&mut self)
         requires { all_told self.old.known self.old.told ≡ true }
         ensures { self.new ≡ played_on self.old }
@@ -290,7 +290,7 @@ impl Body {
         self.at += 1;
     }
 
-    /// Makes the steps of the round that was told, and begins an era with these faulty nodes behind
+    /// Makes the steps of the round that was told, and begins an era with these faulty nodes after
     /// it, which was counted.
     fn play_into(&mut self, faulty: FaultSet)
         requires told { all_told self.old.known self.old.told ≡ true }
@@ -299,7 +299,7 @@ impl Body {
         ensures { self.new ≡ played_into self.old faulty.ids }
     {
         self.tower.tell();
-        faulty.tell();
+        faulty.facts();
         play(
             &self.tower,
             &self.faulty,
@@ -316,14 +316,14 @@ impl Body {
         self.locked = None;
     }
 
-    /// Whether another era may begin behind a round.
+    /// Whether another era may begin after a round.
     fn has_set(&self) -> bool
         ensures { result ≡ nat_lt self.now.known.eras (most_eras self.now.known.version) }
     {
         !self.sets.is_empty()
     }
 
-    /// Counts an era more, and answers an empty set for it.
+    /// Counts another era, and answers an empty set for it.
     fn next_set(&mut self) -> FaultSet
         requires { self.old.known.eras < most_eras self.old.known.version }
         ensures set { result ≡ no_ids (plan_nodes self.old.known.plan) }
@@ -339,9 +339,9 @@ impl Body {
         self.is_told() && t == self.at + 1 && self.has_set()
     }
 
-    /// Takes an era that begins behind the round that was told.
+    /// Takes an era that begins after the round that was told.
     pub fn take_era(&mut self, t: u64, words: Words<'_>) -> Result<Option<Verdict>, TakeError<()>>
-        ensures { Takes (step_by (stage_of self.old) (era_by (Some t) (numbers_in words.entry)))
+        ensures { Takes (step_by (stage_of self.old) (era_by (Some t) (all_numbers words.entry)))
             (stage_of self.new) result }
     {
         if self.is_putting() {

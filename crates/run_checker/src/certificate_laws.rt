@@ -52,7 +52,7 @@ pub fn true_rows_count()
 
 /// In a certificate that is true, the locked configuration of its verdict is the first locked one
 /// of the last era: the rows count from it to the end, and it is at most the plan's bound after the
-/// era's first configuration, where the era is as long.
+/// era's first configuration, if the era is as long.
 pub fn true_locks_are_first()
     ensures { TrueLocksAreFirst }
 {

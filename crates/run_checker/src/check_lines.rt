@@ -1,6 +1,6 @@
 ghost use Rattle.std.specs.Prelude.{◌≡◌};
 ghost use Rattle.edge_io.specs.Taking.{Takes};
-ghost use Rattle.adversary_script.specs.WordTests.{numbers_in};
+ghost use Rattle.texts.specs.Shapes.{all_numbers};
 ghost use Rattle.std.specs.Option.{option_map};
 ghost use Rattle.run_checker.specs.Items.{run_item, faulty_item};
 ghost use Rattle.run_checker.specs.Checking.{unread, planned, step, step_by, base_step};
@@ -37,11 +37,11 @@ pub enum Head {
 pub enum Phase {
     /// Its head, or lines of that.
     Head(Head),
-    /// Its head, and lines behind it.
+    /// Its head, and lines after it.
     Inside(Body),
 }
 
-// Written out, so that what lets go of one calls this, and no more.
+// Written out, so that code that drops one has a single call.
 impl Drop for Phase {
     fn drop(self) {
         match self {
@@ -57,7 +57,7 @@ pub struct CheckLines {
     phase: Phase,
 }
 
-// Written out, so that what lets go of one calls this, and no more.
+// Written out, so that code that drops one has a single call.
 impl Drop for CheckLines {
     fn drop(self) {
         let CheckLines { alloc, phase } = self;
@@ -75,7 +75,7 @@ impl Model for CheckLines {
     ghost view = { λ l. phase_seen l.phase };
 }
 
-/// What stands behind the first line.
+/// What stands after the first line.
 fn behind_run(version: u64) -> Result<Phase, TakeError<()>>
     ensures { Enters (step unread (run_item version)) result }
 {
@@ -86,7 +86,7 @@ fn behind_run(version: u64) -> Result<Phase, TakeError<()>>
     Ok(Phase::Head(Head::Begun(Version { number })))
 }
 
-/// What stands behind the base line.
+/// What stands after the base line.
 fn behind_base(alloc: Global, version: Version, base: u64) -> Result<Phase, TakeError<()>>
     ensures { Enters (base_step version.number base) result }
 {
@@ -98,7 +98,7 @@ fn behind_base(alloc: Global, version: Version, base: u64) -> Result<Phase, Take
     }
 }
 
-/// What stands behind the line of a level.
+/// What stands after the line of a level.
 fn behind_level(
     planned: Planned,
     blocks: u64,
@@ -119,10 +119,10 @@ fn behind_level(
     }
 }
 
-/// What stands behind the line of the nodes that are faulty at first.
+/// What stands after the line of the nodes that are faulty at first.
 fn behind_faulty(alloc: Global, planned: &Planned, words: Words<'_>) -> Result<Phase, TakeError<()>>
     ensures { Enters (step_by (planned_seen planned.now) (option_map faulty_item
-        (numbers_in words.entry))) result }
+        (all_numbers words.entry))) result }
 {
     let plan = &planned.plan;
     let mut faulty = FaultSet::new(alloc, plan.nodes()).map_err(|_| TakeError::NoMemory)?;
@@ -135,7 +135,7 @@ fn behind_faulty(alloc: Global, planned: &Planned, words: Words<'_>) -> Result<P
     }
 }
 
-/// What stands behind a line, where the head was not read before it.
+/// What stands after a line, if the head was not read before it.
 fn behind_head(alloc: Global, head: Head, said: Said<'_>) -> Result<Phase, TakeError<()>>
     ensures { Enters (step_by (head_seen head) (item_seen said.entry)) result }
 {
@@ -150,7 +150,7 @@ fn behind_head(alloc: Global, head: Head, said: Said<'_>) -> Result<Phase, TakeE
     }
 }
 
-/// Takes a line behind the head.
+/// Takes a line after the head.
 fn take_inside(body: &mut Body, said: Said<'_>) -> Result<Option<Verdict>, TakeError<()>>
     ensures { Takes (step_by (stage_of body.old) (item_seen said.entry))
         (stage_of body.new) result }

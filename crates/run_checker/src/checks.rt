@@ -8,15 +8,15 @@ use edge_io::{FedError, Feed, LineBuf, Source};
 use std::alloc::Global;
 use thiserror::Error;
 
-/// More bytes than a certificate has and a line behind it.
+/// More bytes than a certificate has and a line after it.
 const MOST_BYTES: u64 = 1 << 45;
 
 /// The line of a certificate that is refused.
 #[derive(Clone, Copy, Debug, PartialEq, Eq)]
 pub struct CertRefusal {
-    /// The line's number, from 1: the first at which the lines up to it, each with its newline, are
-    /// the front of no certificate. Where the text ends before its end line it is the line behind
-    /// the last one.
+    /// The line's number, from 1: the first at which the lines up to it, each with its newline,
+    /// begin no certificate. If the text ends before its end line, it is the line after the last
+    /// one.
     pub line: u64,
 }
 
@@ -41,12 +41,12 @@ pub enum CheckError {
 /// have `limit` bytes.
 ///
 /// `Refused` names the first line at which its lines begin no certificate; a line that lacks its
-/// newline, is longer than 4096 bytes or stands behind the last one is refused so, and the line
-/// behind the last one where the text ends before the certificate does. `TooLong` comes where the
-/// byte behind the limit was read, and no line that is shown before it is refused; no certificate
-/// has more than 2^44 bytes. Both come at once: at most 4096 bytes were read behind the one that
-/// decides. `ReadFault` comes only where the source counted a fault, and just one, and its end was
-/// not met; nothing that was read before decides. Memory is taken with the line buffer and the head
+/// newline, is longer than 4096 bytes or stands after the last one is refused so, and the line
+/// after the last one if the text ends before the certificate does. `TooLong` comes if the byte
+/// after the limit was read, and no line that is shown before it is refused; no certificate has
+/// more than 2^44 bytes. Both come at once: at most 4096 bytes were read after the one that
+/// decides. `ReadFault` comes only if the source counted a fault, and just one, and its end was not
+/// met; nothing that was read before decides. Memory is taken with the line buffer and the head
 /// alone: for the plan, two configurations, and the most that the faulty nodes of any era tell in
 /// one round. No later line takes memory.
 pub fn check_run<S: Source>(

@@ -92,7 +92,7 @@ impl Digits {
         true
     }
 
-    /// Puts the bytes that they stand for at the front of these.
+    /// Puts the bytes that they stand for at the beginning of these.
     pub fn decode(&self, bytes: &mut [u8; 40])
         ensures { (count : ℕ) → length self.now ≡ 2 * count
             → take count bytes.new ≡ decoded self.now }

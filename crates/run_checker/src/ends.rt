@@ -26,7 +26,7 @@ impl Body {
         !needs_state(&self.unknown, &self.faulty, self.from, self.tower.nodes())
     }
 
-    /// Compares a row with what the configuration shows, and takes it where it is one.
+    /// Compares a row with what the configuration shows, and takes it if it is one.
     fn mark_row(&mut self, words: Words<'_>) -> bool
         ensures { Marks (values_said words.entry) self.old self.new result }
     {
@@ -46,7 +46,7 @@ impl Body {
         true
     }
 
-    /// Makes the configuration that is known the one whose row is next; false where no row may be.
+    /// Makes the configuration that is known the one whose row is next; false if no row may be.
     fn come_to_row(&mut self) -> bool
         ensures { ComesToRow self.old self.new result }
     {
@@ -84,14 +84,14 @@ impl Body {
         self.at
     }
 
-    /// Whether nothing was told behind the last row.
+    /// Whether nothing was told after the last row.
     fn is_at_row(&self) -> bool
         ensures { result ≡ is_at_row self.now }
     {
         !self.is_putting && self.tellings.is_empty()
     }
 
-    /// The verdict, where the certificate ends with the last row.
+    /// The verdict, if the certificate ends with the last row.
     fn verdict(&self) -> Verdict
         ensures { result ≡ verdict_now self.now.known }
     {

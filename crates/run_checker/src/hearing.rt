@@ -2,9 +2,9 @@ ghost use Rattle.std.specs.Prelude.{◌≡◌, ◌<◌, ◌≤◌, ◌+◌, ◌*
 ghost use Rattle.construction.specs.Steps.{state_of};
 ghost use Rattle.run_checker.specs.Hearing.{Lays};
 
-use crate::rounds::Room;
+use crate::rounds::RoundBuffers;
 use crate::tellings::Tellings;
-use crate::turns::Turn;
+use crate::turns::NodeStep;
 use counter_core::Counter;
 use round_runner::place_of;
 use state_codec::Packed;
@@ -43,7 +43,7 @@ fn lay_told(
     }
 }
 
-impl Turn<'_> {
+impl NodeStep<'_> {
     ghost use Rattle.std.specs.Prelude.{take};
     ghost use Rattle.construction.specs.Plans.{plan_nodes};
     ghost use Rattle.construction.specs.Steps.{step_of};
@@ -53,8 +53,8 @@ impl Turn<'_> {
     ghost use Rattle.run_checker.specs.Rounds.{stepped_at, IsGathered};
 
     /// Lays what the node hears of the faulty nodes of a stretch of places into these: what they
-    /// tell it, or where it is faulty itself the zero state, and its own state in its place.
-    fn lay_heard(&self, config: &Packed, stretch: (usize, usize), room: &mut Room)
+    /// tell it, or, if it is faulty itself, the zero state, and its own state in its place.
+    fn lay_heard(&self, config: &Packed, stretch: (usize, usize), room: &mut RoundBuffers)
         requires room { IsGathered self.now.round.now.tower.now self.now.round.now.faulty.now.ids
             self.now.round.now.told.now.states config.now room.old }
         requires stretch { (stretch.0 ≤ stretch.1)
@@ -66,7 +66,7 @@ impl Turn<'_> {
     {
         let round = self.round;
         round.tower.tell();
-        config.tell();
+        config.facts();
         if round.faulty.contains(self.v) {
             lay_zeros(stretch, &room.zero, &mut room.lies);
             let own = place_of(round.faulty, self.v);
@@ -77,9 +77,9 @@ impl Turn<'_> {
         }
     }
 
-    /// Lays as much of what the node hears of the faulty nodes as its step hangs on into the first
-    /// of `room.lies`.
-    pub fn hear(&self, config: &Packed, room: &mut Room)
+    /// Lays as much of what the node hears of the faulty nodes as its step depends on into the
+    /// first of `room.lies`.
+    pub fn hear(&self, config: &Packed, room: &mut RoundBuffers)
         requires room { IsGathered self.now.round.now.tower.now self.now.round.now.faulty.now.ids
             self.now.round.now.told.now.states config.now room.old }
         ensures room { IsGathered self.now.round.now.tower.now self.now.round.now.faulty.now.ids
@@ -94,7 +94,7 @@ impl Turn<'_> {
             config.now.current (pairs_of (plan_nodes self.now.round.now.tower.now)
             self.now.round.now.faulty.now.ids) self.now.round.now.told.now.states self.now.v }
     {
-        let stretch = self.round.tower.heeded(self.v, &room.shared);
+        let stretch = self.round.tower.relevant_liars(self.v, &room.shared);
         self.lay_heard(config, stretch, room);
     }
 }

@@ -1,6 +1,6 @@
 ghost use Rattle.std.specs.Prelude.{◌≡◌, ◌<◌, ◌≤◌, ◌^◌, ◌&&◌, not, true, [], length, All, IfOk};
 ghost use Rattle.sync_types.specs.FaultSets.{is_in};
-ghost use Rattle.adversary_script.specs.WordTests.{numbers_in};
+ghost use Rattle.texts.specs.Shapes.{all_numbers};
 ghost use Rattle.std.specs.List.{range_with_len};
 ghost use Rattle.run_checker.specs.Grammar.{most_eras};
 ghost use Rattle.run_checker.specs.Checking.{needs_state};
@@ -26,12 +26,11 @@ fn may_follow(faults: u32, set: &FaultSet, id: u64) -> bool
     id < u64::from(set.nodes()) && set.len() < faults as usize && is_above(set, id)
 }
 
-/// Reads the ids of words into an empty set: false where they are not those of at most `faults`
-/// nodes.
+/// Reads the ids of words into an empty set: false if they are not those of at most `faults` nodes.
 pub fn read_ids(words: Words<'_>, faults: u32, set: &mut FaultSet) -> bool
     requires { set.old.ids ≡ [] }
     ensures nodes { set.new.nodes ≡ set.old.nodes }
-    ensures ids { ReadsBorne set.old.nodes faults (numbers_in words.entry) set.new.ids result }
+    ensures ids { ReadsBorne set.old.nodes faults (all_numbers words.entry) set.new.ids result }
     ensures few { result ≡ true → length set.new.ids ≤ faults }
 {
     for word in words {
@@ -46,7 +45,7 @@ pub fn read_ids(words: Words<'_>, faults: u32, set: &mut FaultSet) -> bool
     true
 }
 
-/// How many eras may begin behind rounds in a certificate of a version.
+/// How many eras may begin after rounds in a certificate of a version.
 pub fn most_eras(version: u32) -> u32
     ensures { result ≡ most_eras version }
 {

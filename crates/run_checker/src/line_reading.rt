@@ -19,8 +19,8 @@ fn refused(line: u64) -> FedError<()>
     FedError::Refused(Refused { line, rule: () })
 }
 
-/// Takes the next line where it says what is told next and stands whole in the buffer and within
-/// the limit. Else nothing changes.
+/// Takes the next line if it says what is told next and stands whole in the buffer and within the
+/// limit. Else nothing changes.
 fn take_held<S: Source>(feed: &mut Feed<'_, S>, reader: &mut CheckLines, limit: u64) -> bool
     ensures taken { result ≡ true → IsNextRead limit feed.old.line_bytes feed.new.line_bytes
         (feed_left S.left feed.old) (feed_left S.left feed.new) reader.old reader.new }
@@ -41,8 +41,7 @@ fn take_held<S: Source>(feed: &mut Feed<'_, S>, reader: &mut CheckLines, limit: 
 }
 
 /// Reads a text whose lines all end with a newline, from a feed of which no line was read, to the
-/// end of its input, as `read_ended` does. A line that says what is told next is read where it
-/// stands in the buffer.
+/// end of its input. A line that says what is told next is read where it stands in the buffer.
 pub fn read_lines<S: Source>(
     feed: &mut Feed<'_, S>,
     line: &mut LineBuf,
@@ -89,7 +88,7 @@ pub fn read_lines<S: Source>(
     }
 }
 
-/// Sees that nothing stands behind the last line.
+/// Sees that nothing stands after the last line.
 fn end_of_text<S: Source>(
     feed: &mut Feed<'_, S>,
     line: &mut LineBuf,

@@ -6,11 +6,11 @@ use itoa::Buffer;
 use std::marker::Model;
 
 /// No lie's line has more bytes before its digits: `lie `, and two numbers of ten digits at most,
-/// each with a space behind it.
+/// each with a space after it.
 const MOST_FRONT: usize = 26;
 
-/// A faulty node and one that it tells a state, with the text that stands before the digits in the
-/// line of it.
+/// A faulty node and one that it tells a state, with the text that stands before the digits in its
+/// line.
 #[derive(Drop)]
 pub struct Pair {
     sender: u32,
@@ -31,7 +31,7 @@ impl Model for Pair {
         × (take p.len p.text ≡ lie_front (p.sender, p.receiver)) };
 }
 
-/// Puts bytes behind the first `len` of a text, and answers how many there are then.
+/// Puts bytes after the first `len` of a text, and answers how many there are then.
 fn put(text: &mut [u8], len: usize, bytes: &[u8]) -> usize
     requires { len + length bytes.now ≤ length text.old }
     ensures size { length text.new ≡ length text.old }
@@ -92,7 +92,7 @@ impl Pair {
         self.sender
     }
 
-    /// The node that is told.
+    /// The node that hears it.
     pub fn receiver(&self) -> u32
         ensures { result ≡ self.now.1 }
     {
@@ -107,7 +107,7 @@ impl Pair {
         self.len
     }
 
-    /// What stands in a line behind the text of this pair, where it begins with that.
+    /// What stands in a line after the text of this pair, if it begins with that.
     pub fn digits_in<'a>(&self, line: &'a [u8]) -> Option<&'a [u8]>
         ensures { IfSome result (λ digits. line.now ≡ lie_front self.now ++ digits.now) }
     {

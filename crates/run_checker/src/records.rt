@@ -1,5 +1,6 @@
-ghost use Rattle.std.specs.Prelude.{◌≡◌, ◌<◌, ◌+◌, OnOk, OnErr};
+ghost use Rattle.std.specs.Prelude.{◌≡◌, ◌<◌, ◌+◌, false, OnOk, OnErr};
 ghost use Rattle.texts.specs.Growth.{Puts};
+ghost use Rattle.edge_io.specs.Writing.{Writes};
 ghost use Rattle.run_checker.specs.Certificates.{certificate_text};
 ghost use Rattle.run_checker.specs.Recorded.{certificate_of, era_at};
 ghost use Rattle.run_checker.specs.RunLines.{era_lines, turn_text, turns_text, record_text};
@@ -10,94 +11,85 @@ use crate::lie_lines::put_lies;
 use crate::row_lines::{put_era, put_row};
 use crate::start_lines::{put_first_starts, put_starts};
 use counter_core::NoOverlay;
-use edge_io::{Gathered, Sink, WriteFault, put_all};
+use edge_io::{Sink, WriteFault, Writer};
 use plan_numbers::Plan;
 use round_runner::{Runner, beginning_at};
 
-/// Writes the era that begins with the runner's configuration, `t + 1`, where one does.
-fn put_era_lines<K: Sink>(
-    sink: &mut K,
-    runner: &mut Runner<NoOverlay>,
-    t: u64,
-) -> Result<(), WriteFault>
+/// Writes the era that begins with the runner's configuration, `t + 1`, if one does.
+fn put_era_lines<K: Sink>(writer: &mut Writer<'_, K>, runner: &mut Runner<NoOverlay>, t: u64)
     requires small { t < 1000000 }
     requires plays { IsToRecord runner.old }
-    ensures text { Puts result (era_lines runner.old.plan runner.old.script t runner.old.states
+    ensures text { Writes K.told (era_lines runner.old.plan runner.old.script t runner.old.states
         (era_at runner.old.plan runner.old.script (t + 1)))
-        (K.told sink.old) (K.told sink.new) }
+        writer.old writer.new }
     ensures same { runner.new ≡ runner.old }
 {
     match beginning_at(runner.script(), t + 1) {
-        None => Ok(()),
+        None => {}
         Some(j) => {
-            put_era(sink, t + 1, runner.script().faulty_at(t + 1))?;
-            put_starts(sink, runner, t, j)
+            put_era(writer, t + 1, runner.script().faulty_at(t + 1));
+            put_starts(writer, runner, t, j);
         }
     }
 }
 
-/// Writes what is told in the coming round, plays it, and writes the era that begins behind it and
+/// Writes what is told in the coming round, plays it, and writes the era that begins after it and
 /// the row.
-fn put_turn<K: Sink>(sink: &mut K, runner: &mut Runner<NoOverlay>) -> Result<(), WriteFault>
+fn put_turn<K: Sink>(writer: &mut Writer<'_, K>, runner: &mut Runner<NoOverlay>)
     requires round { runner.old.at < runner.old.script.rounds }
     requires plays { IsToRecord runner.old }
-    ensures text { Puts result (turn_text runner.old.plan runner.old.script runner.old.at)
-        (K.told sink.old) (K.told sink.new) }
-    ensures played { OnOk result (HasPlayedOne runner.old runner.new) }
-    ensures stopped { OnErr result (StillPlays runner.old runner.new) }
+    ensures text { Writes K.told (turn_text runner.old.plan runner.old.script runner.old.at)
+        writer.old writer.new }
+    ensures played { HasPlayedOne runner.old runner.new }
 {
     let t = runner.at();
-    put_lies(sink, runner)?;
+    put_lies(writer, runner);
     runner.round();
-    put_era_lines(sink, runner, t)?;
-    put_row(sink, runner)
+    put_era_lines(writer, runner, t);
+    put_row(writer, runner);
 }
 
-/// Writes what is told in all rounds, with their eras and rows.
-fn put_turns<K: Sink>(sink: &mut K, runner: &mut Runner<NoOverlay>) -> Result<(), WriteFault>
+/// Writes what is told in all rounds, with their eras and rows. After a write that failed no round
+/// is played.
+fn put_turns<K: Sink>(writer: &mut Writer<'_, K>, runner: &mut Runner<NoOverlay>)
     requires start { runner.old.at ≡ 0 }
     requires plays { IsToRecord runner.old }
-    ensures text { Puts result (turns_text runner.old.plan runner.old.script)
-        (K.told sink.old) (K.told sink.new) }
-    ensures played { OnOk result (HasPlayedAll runner.old runner.new) }
-    ensures stopped { OnErr result (StillPlays runner.old runner.new) }
+    ensures text { Writes K.told (turns_text runner.old.plan runner.old.script)
+        writer.old writer.new }
+    ensures played { writer.new.failed ≡ false → HasPlayedAll runner.old runner.new }
+    ensures stopped { StillPlays runner.old runner.new }
 {
     let rounds = runner.script().rounds();
     for _ in 0..rounds {
-        match put_turn(sink, runner) {
-            Ok(()) => {}
-            Err(WriteFault) => return Err(WriteFault),
+        if writer.has_failed() {
+            return;
         }
+        put_turn(writer, runner);
     }
-    Ok(())
 }
 
 /// Writes the lines of the certificate of a script's run.
-fn put_record<K: Sink>(
-    sink: &mut K,
-    plan: &Plan,
-    runner: &mut Runner<NoOverlay>,
-) -> Result<(), WriteFault>
+fn put_record<K: Sink>(writer: &mut Writer<'_, K>, plan: &Plan, runner: &mut Runner<NoOverlay>)
     requires plan { runner.old.plan ≡ plan.now }
     requires start { runner.old.at ≡ 0 }
     requires plays { IsToRecord runner.old }
-    ensures text { Puts result (record_text plan.now runner.old.script)
-        (K.told sink.old) (K.told sink.new) }
-    ensures played { OnOk result (HasPlayedAll runner.old runner.new) }
-    ensures stopped { OnErr result (StillPlays runner.old runner.new) }
+    ensures text { Writes K.told (record_text plan.now runner.old.script)
+        writer.old writer.new }
+    ensures played { writer.new.failed ≡ false → HasPlayedAll runner.old runner.new }
+    ensures stopped { StillPlays runner.old runner.new }
 {
-    put_head(sink, plan, runner.script())?;
-    put_first_starts(sink, runner)?;
-    put_row(sink, runner)?;
-    put_turns(sink, runner)?;
-    put_all(sink, b"end\n")
+    put_head(writer, plan, runner.script());
+    put_first_starts(writer, runner);
+    put_row(writer, runner);
+    put_turns(writer, runner);
+    writer.text(b"end\n");
 }
 
 /// Writes the text of the certificate of a script's run. The runner is at configuration 0, and
 /// plays all rounds, so that it ends at the script's last configuration; `plan` is its plan. It
 /// takes no memory.
 ///
-/// `WriteFault` comes only where the sink counted a fault; a front of the text was then taken, and
+/// `WriteFault` comes only if the sink counted a fault; a prefix of the text was then taken, and
 /// the runner stopped at some configuration of the script.
 pub fn write_run<K: Sink>(
     plan: &Plan,
@@ -112,9 +104,7 @@ pub fn write_run<K: Sink>(
     ensures played { OnOk result (HasPlayedAll runner.old runner.new) }
     ensures stopped { OnErr result (StillPlays runner.old runner.new) }
 {
-    let mut lines = Gathered::new(sink);
-    match put_record(&mut lines, plan, runner) {
-        Ok(()) => lines.finish(Ok(())),
-        Err(WriteFault) => Err(WriteFault),
-    }
+    let mut writer = Writer::new(sink);
+    put_record(&mut writer, plan, runner);
+    writer.finish()
 }

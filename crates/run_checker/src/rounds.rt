@@ -8,7 +8,7 @@ ghost use Rattle.run_checker.specs.Grammar.{pairs_of};
 ghost use Rattle.run_checker.specs.Rounds.{stepped_all, AreStates, IsReady, IsTold, IsConfig};
 
 use crate::tellings::Tellings;
-use crate::turns::Turn;
+use crate::turns::NodeStep;
 use counter_core::Counter;
 use majority_votes::Steps;
 use state_codec::Packed;
@@ -18,8 +18,8 @@ use std::sync::ledger::{Blank, Ledger};
 use sync_types::{FaultSet, NoMemory, NodeState};
 use tower::{Shared, Tower};
 
-/// What rounds need beside the configurations, made once.
-pub struct Room {
+/// What rounds need besides the configurations, made once.
+pub struct RoundBuffers {
     /// What the faulty nodes tell a node, in the order of their ids.
     pub lies: Vec<NodeState>,
     /// The zero state.
@@ -30,10 +30,10 @@ pub struct Room {
     pub out: NodeState,
 }
 
-// Written out, so that what lets go of one calls this, and no more.
-impl Drop for Room {
+// Written out, so that code that drops one has a single call.
+impl Drop for RoundBuffers {
     fn drop(self) {
-        let Room {
+        let RoundBuffers {
             lies,
             zero,
             shared,
@@ -47,11 +47,11 @@ impl Drop for Room {
 }
 
 /// The room that rounds of a plan need.
-pub fn room_for(alloc: Global, tower: &Tower) -> Result<Room, NoMemory>
+pub fn room_for(alloc: Global, tower: &Tower) -> Result<RoundBuffers, NoMemory>
     ensures { IfOk result (IsReady tower.now) }
 {
     tower.tell();
-    Ok(Room {
+    Ok(RoundBuffers {
         lies: NodeState::zeros(alloc, tower.nodes(), tower.depth())?,
         zero: NodeState::zero(alloc, tower.depth())?,
         shared: tower.shared(alloc)?,
@@ -59,7 +59,7 @@ pub fn room_for(alloc: Global, tower: &Tower) -> Result<Room, NoMemory>
     })
 }
 
-/// How many correct nodes node `v` is: one, or none where it is faulty.
+/// How many correct nodes node `v` is: one, or none if it is faulty.
 fn correct_at(faulty: &FaultSet, v: u32) -> usize
     ensures value { result ≡ (if is_in faulty.now.ids v then 0 else 1) }
     ensures most { result ≤ 1 }
@@ -106,7 +106,7 @@ impl<'a> Round<'a> {
         &self,
         new_faulty: &FaultSet,
         config: &mut Packed,
-        room: &mut Room,
+        room: &mut RoundBuffers,
         steps: &mut Steps<G>,
     )
         requires said { AreStates self.now.tower.now self.now.told.now.states }
@@ -121,12 +121,12 @@ impl<'a> Round<'a> {
         ensures room { IsReady self.now.tower.now room.new }
     {
         self.tower.tell();
-        config.tell();
+        config.facts();
         self.tower
             .gather(config, self.faulty, &mut room.shared, steps);
         let mut before = 0;
         for v in 0..self.tower.nodes() {
-            let turn = Turn {
+            let turn = NodeStep {
                 round: &*self,
                 v,
                 before,
@@ -141,7 +141,7 @@ impl<'a> Round<'a> {
         &self,
         new_faulty: &FaultSet,
         config: &mut Packed,
-        room: &mut Room,
+        room: &mut RoundBuffers,
         blank: Blank,
     )
         requires blank { IsBlankOf G.name G.parts blank.name blank.parts }
@@ -161,15 +161,15 @@ impl<'a> Round<'a> {
     }
 }
 
-/// Plays a round: makes the configuration behind it the current one. The steps of all nodes that
-/// are correct in it stand there, and the zero state for each that is faulty.
+/// Plays a round: makes the configuration after it the current one. The steps of all nodes that are
+/// correct in it stand there, and the zero state for each that is faulty.
 pub fn play(
     tower: &Tower,
     faulty: &FaultSet,
     new_faulty: &FaultSet,
     told: &Tellings,
     config: &mut Packed,
-    room: &mut Room,
+    room: &mut RoundBuffers,
 )
     requires told { IsTold tower.now faulty.now told.now }
     requires config { IsConfig tower.now config.old }
@@ -179,7 +179,7 @@ pub fn play(
         config.old.current (pairs_of (plan_nodes tower.now) faulty.now.ids) told.now.states }
     ensures room { IsReady tower.now room.new }
 {
-    faulty.tell();
+    faulty.facts();
     let _few = faulty.len();
     let correct = count_correct(faulty);
     let round = Round {

@@ -6,7 +6,7 @@ use edge_io::{Words, number};
 use state_codec::Packed;
 use sync_types::FaultSet;
 
-/// What a word of a row says: None within for a star.
+/// What a word of a row says: `Some(None)` for a star.
 fn read_value(word: &[u8]) -> Option<Option<u64>>
     ensures { result ≡ value_said word.now }
 {
@@ -17,7 +17,7 @@ fn read_value(word: &[u8]) -> Option<Option<u64>>
     Some(Some(value))
 }
 
-/// Whether a word says what its node shows; None where just one of both has a number.
+/// Whether a word says what its node shows; None if just one of the two has a number.
 fn compare_value(said: Option<u64>, shown: Option<u64>) -> Option<bool>
     ensures { result ≡ value_compared said shown }
 {
@@ -50,7 +50,7 @@ pub struct Showing<'a> {
 }
 
 impl Showing<'_> {
-    /// What the word of node `v` in a row has to be; nothing behind the last node.
+    /// What the word of node `v` in a row has to be; nothing after the last node.
     fn at(&self, v: u32) -> Option<u64>
         ensures { v < self.now.faulty.now.nodes → result
             ≡ shown_at self.now.depth self.now.faulty.now.ids self.now.config.now.current v }
@@ -61,9 +61,9 @@ impl Showing<'_> {
         Some(round_runner::shown_at(self.config, v, self.depth))
     }
 
-    /// Reads a row. None where a word is no number or star, where there is not one for each node,
-    /// or where a star does not stand just for each faulty node; else whether each number is what
-    /// its node shows.
+    /// Reads a row. None if a word is no number or star, if there is not one for each node, or if
+    /// the stars do not stand for exactly the faulty nodes; else whether each number is what its
+    /// node shows.
     pub fn compare_row(&self, words: Words<'_>) -> Option<bool>
         ensures { result ≡ row_compared self.now.depth self.now.faulty.now.ids
             self.now.config.now.current self.now.faulty.now.nodes (values_said words.entry) }

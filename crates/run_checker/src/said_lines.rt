@@ -15,7 +15,7 @@ pub enum Said<'a> {
     Run(u64),
     /// `base C`
     Base(u64),
-    /// `level K F C`, or with ` spare S` behind.
+    /// `level K F C`, or with ` spare S` after it.
     Level(u64, u64, u64, Option<u64>),
     /// `faulty`, and ids.
     Faulty(Words<'a>),
@@ -31,7 +31,7 @@ pub enum Said<'a> {
     End,
 }
 
-/// The one number that is left, where there is just one word and it is a number.
+/// The one number that is left, if there is just one word and it is a number.
 fn one_number(mut words: Words<'_>) -> Option<u64>
     ensures { result ≡ only_number words.entry }
 {
@@ -56,7 +56,7 @@ fn base_said<'a>(words: Words<'a>) -> Option<Said<'a>>
     Some(Said::Base(base))
 }
 
-/// The spares of a level: none where no word is left, and else `spare S`.
+/// The spares of a level: none if no word is left, and else `spare S`.
 fn spares_said(mut words: Words<'_>) -> Option<Option<u64>>
     ensures { result ≡ spares_in words.entry }
 {
@@ -134,7 +134,7 @@ fn end_said<'a>(mut words: Words<'a>) -> Option<Said<'a>>
     }
 }
 
-/// What the words behind the first one say.
+/// What the words after the first one say.
 fn said_behind<'a>(key: &[u8], words: Words<'a>) -> Option<Said<'a>>
     ensures { item_or_none result ≡ item_of (key.now ∷ words.entry) }
 {

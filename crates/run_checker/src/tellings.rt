@@ -43,7 +43,7 @@ fn take_pairs(faulty: &FaultSet, pairs: &mut Vec<Pair>)
     ensures senders { All (λ pair. pair.0 < faulty.now.nodes) pairs.new.items }
     ensures room { vec_capacity pairs.old ≤ vec_capacity pairs.new }
 {
-    faulty.tell();
+    faulty.facts();
     pairs.clear();
     for i in 0..faulty.len() {
         add_pairs(faulty.at(i), faulty, pairs);
@@ -80,8 +80,8 @@ fn is_count(pairs: &[Pair], k: usize) -> bool
     k == pairs.len()
 }
 
-/// What the faulty nodes of a round tell, of which so much was read. It is kept as digits: most of
-/// it is heeded by no node. There is room for so many pairs, whatever they are.
+/// What the faulty nodes of a round tell, of which so much was read. It is kept as digits: no node
+/// heeds most of it. There is room for so many pairs, whatever they are.
 pub struct Tellings {
     shape: StateShape,
     pairs: Vec<Pair>,
@@ -89,7 +89,7 @@ pub struct Tellings {
     count: usize,
 }
 
-// Written out, so that what lets go of one calls this, and no more.
+// Written out, so that code that drops one has a single call.
 impl Drop for Tellings {
     fn drop(self) {
         let Tellings {
@@ -132,7 +132,7 @@ impl Tellings {
           room = most_pairs plan.now;
         }) }
     {
-        plan.tell();
+        plan.facts();
         let shape = StateShape::of(alloc, plan)?;
         let faults = plan.faults() as usize;
         let most = faults * (plan.nodes() as usize - faults);
@@ -178,7 +178,7 @@ impl Tellings {
         is_pair_at(&self.pairs, self.count, sender, receiver)
     }
 
-    /// How long a line of the next pair is; where none is left, 0.
+    /// How long a line of the next pair is; if none is left, 0.
     pub fn next_size(&self) -> usize {
         if self.count >= self.pairs.len() {
             return 0;
@@ -186,7 +186,7 @@ impl Tellings {
         self.pairs[self.count].front_len() + self.digits[self.count].count()
     }
 
-    /// What stands in a line in the place of the next pair's digits, where it is a line of that.
+    /// What stands in a line in the place of the next pair's digits, if it is a line of that.
     pub fn digits_in<'a>(&self, line: &'a [u8]) -> Option<&'a [u8]>
         ensures { IfSome result (λ digits. IsNextLine self.now line.now digits.now) }
     {
@@ -218,8 +218,8 @@ impl Tellings {
         is_count(&self.pairs, self.count)
     }
 
-    /// Takes what the sender of the next pair tells: false where the digits are not those of a
-    /// state of it.
+    /// Takes what the sender of the next pair tells: false if the digits are not those of a state
+    /// of it.
     pub fn add(&mut self, digits: &[u8]) -> bool
         requires { length self.old.states < length self.old.pairs }
         ensures { AddsState digits.now self.old self.new result }

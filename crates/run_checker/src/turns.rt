@@ -2,7 +2,7 @@ ghost use Rattle.std.specs.Prelude.{◌≡◌, ◌<◌, length};
 ghost use Rattle.construction.specs.Plans.{plan_nodes};
 ghost use Rattle.round_runner.specs.Locks.{correct_nodes};
 
-use crate::rounds::{Room, Round};
+use crate::rounds::{Round, RoundBuffers};
 use counter_core::Counter;
 use majority_votes::Steps;
 use state_codec::Packed;
@@ -11,7 +11,7 @@ use sync_types::FaultSet;
 
 /// A node that steps in a round.
 #[derive(Clone, Copy, Drop)]
-pub struct Turn<'a> {
+pub struct NodeStep<'a> {
     /// The round.
     pub round: &'a Round<'a>,
     /// The node.
@@ -22,13 +22,13 @@ pub struct Turn<'a> {
     ghost stand: { before ≡ length (correct_nodes v round.now.faulty.now.ids) },
 }
 
-impl Turn<'_> {
+impl NodeStep<'_> {
     ghost use Rattle.std.specs.Prelude.{◌≡◌, slice_set};
     ghost use Rattle.run_checker.specs.Grammar.{pairs_of};
     ghost use Rattle.run_checker.specs.Rounds.{stepped_at, state_next, IsGathered};
 
     /// Makes its step into `room.out`.
-    fn step<G: Ledger>(&self, config: &Packed, room: &mut Room, steps: &mut Steps<G>)
+    fn step<G: Ledger>(&self, config: &Packed, room: &mut RoundBuffers, steps: &mut Steps<G>)
         requires room { IsGathered self.now.round.now.tower.now self.now.round.now.faulty.now.ids
             self.now.round.now.told.now.states config.now room.old }
         ensures out { room.new.out
@@ -43,15 +43,15 @@ impl Turn<'_> {
         self.hear(config, room);
         let lies = &room.lies[..liars];
         let tower = self.round.tower;
-        tower.advance_shared(self.v, config, lies, &mut room.shared, &mut room.out, steps);
+        tower.advance_shared(self.v, lies, &mut room.shared, &mut room.out, steps);
     }
 
-    /// Makes its next state: its step, or the zero state where it is faulty then.
+    /// Makes its next state: its step, or the zero state if it is faulty then.
     pub fn step_one<G: Ledger>(
         &self,
         new_faulty: &FaultSet,
         config: &mut Packed,
-        room: &mut Room,
+        room: &mut RoundBuffers,
         steps: &mut Steps<G>,
     )
         requires room { IsGathered self.now.round.now.tower.now self.now.round.now.faulty.now.ids
@@ -65,7 +65,7 @@ impl Turn<'_> {
             self.now.round.now.told.now.states config.old room.new }
     {
         self.round.tower.tell();
-        config.tell();
+        config.facts();
         if new_faulty.contains(self.v) {
             config.put(self.v, &room.zero);
         } else {

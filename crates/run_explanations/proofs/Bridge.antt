@@ -7,7 +7,7 @@ use Rattle.construction.specs.Plans.{Level, Plan, beat_of, nodes_of, faults_of}
 use Rattle.plan_laws.specs.Explained.{Explains}
 use Rattle.adversary_script.specs.Scripts.{Script}
 use Rattle.round_runner.specs.Played.{played_at}
-use Rattle.run_explanations.specs.declared.seeing.Seen.{Seen}
+use Rattle.run_explanations.specs.declared.seeing.Observation.{Observation}
 use Rattle.run_explanations.specs.Explanations.{ExplainsIn, ExplainsEra, era_begin, is_faulty}
 use Rattle.run_explanations.specs.Explanations.{outputs_in, seen_at}
 use Rattle.run_explanations.specs.Seeing.{Sees, seen_in}
@@ -16,7 +16,8 @@ use Rattle.run_explanations.proofs.Found.{Explained}
 use Rattle.run_explanations.proofs.SeenShown.{shown_is_seen, seen_shows}
 
 -- what configurations show
-abbrev seen_over : Level → List Level → (faulty : ℕ → Bool) → (outs : ℕ → ℕ → ℕ) → ℕ → Option Seen
+abbrev seen_over : Level → List Level → (faulty : ℕ → Bool) → (outs : ℕ → ℕ → ℕ) → ℕ
+    → Option Observation
 seen_over level below faulty outs c = seen_in (top_over level below) faulty (outs c)
 
 module _ (level : Level) (below : List Level) (faulty : ℕ → Bool) (last from : ℕ) (outs : ℕ → ℕ → ℕ)
@@ -116,11 +117,11 @@ module _ (level : Level) (below : List Level) (faulty : ℕ → Bool) (last from
 -- ---- of the last era of a script
 
 module _ (script : Script) (config_at : ℕ → List State) (t b s k : ℕ) where
-  abbrev seen_by : (levels : List Level) → ℕ → Option Seen
+  abbrev seen_by : (levels : List Level) → ℕ → Option Observation
   seen_by levels c = seen_in (top_in levels) (is_faulty script)
       (outputs_in (length levels - 1) (config_at c))
 
-  abbrev seen_deep : (level : Level) (below : List Level) (depth : ℕ) → ℕ → Option Seen
+  abbrev seen_deep : (level : Level) (below : List Level) (depth : ℕ) → ℕ → Option Observation
   seen_deep level below depth c = seen_in (top_over level below) (is_faulty script)
       (outputs_in depth (config_at c))
 
@@ -138,7 +139,7 @@ module _ (script : Script) (config_at : ℕ → List State) (t b s k : ℕ) wher
   to_in [] from is since why = absurd why
   to_in (level ∷ below) from is since why =
       subst
-      (λ (seen : ℕ → Option Seen). Explained (beat_of level) (is_faulty script) script.rounds
+      (λ (seen : ℕ → Option Observation). Explained (beat_of level) (is_faulty script) script.rounds
       from seen t b s k)
       (same_seen level below)
       (to_seen level below (is_faulty script) script.rounds from
@@ -153,7 +154,7 @@ module _ (script : Script) (config_at : ℕ → List State) (t b s k : ℕ) wher
       from_seen level below (is_faulty script) script.rounds from
       (λ r. outputs_in (length below) (config_at r)) is t b s k
       (subst
-      (λ (seen : ℕ → Option Seen). Explained (beat_of level) (is_faulty script) script.rounds
+      (λ (seen : ℕ → Option Observation). Explained (beat_of level) (is_faulty script) script.rounds
       from seen t b s k)
       (sym (same_seen level below)) why)
 

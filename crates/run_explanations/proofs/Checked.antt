@@ -1,4 +1,4 @@
--- An explanation that is given passes exactly where it explains.
+-- An explanation that is given passes exactly if it explains.
 use Rattle.std.proofs.Common.{◌≡◌, ℕ, suc, ◌+◌, ◌-◌, ◌*◌, ◌/◌, ◌%◌, ◌<◌, ◌≤◌, Bool, true, false}
 use Rattle.std.proofs.Common.{Option, Some, None, refl, sym, ap, ◌∙◌, subst, arith}
 use Rattle.std.specs.Prelude.{nat_eq, nat_le, ◌&&◌}
@@ -8,8 +8,8 @@ use Rattle.std.proofs.lemmas.Bool.{le-leb}
 use Rattle.construction.specs.Plans.{Plan}
 use Rattle.adversary_script.specs.Scripts.{Script}
 use Rattle.run_explanations.specs.declared.explanations.Explanation.{Explanation}
-use Rattle.run_explanations.specs.declared.searching.Stretch.{Stretch}
-use Rattle.run_explanations.specs.declared.seeing.Seen.{Seen}
+use Rattle.run_explanations.specs.declared.searching.LeaderStreak.{LeaderStreak}
+use Rattle.run_explanations.specs.declared.seeing.Observation.{Observation}
 use Rattle.run_explanations.specs.declared.tops.Top.{Top}
 use Rattle.run_explanations.specs.Checking.{Fits, is_of, is_of_seen}
 use Rattle.run_explanations.specs.Explanations.{IsExplanation, era_begin, is_faulty, seen_at}
@@ -22,7 +22,7 @@ use Rattle.run_explanations.proofs.Taking.{part_small}
 use Rattle.run_explanations.proofs.Windows.{IsWindow, Stands, stands, IsLong, window_long}
 
 -- what explains fits
-pub explained_fits : (beat : ℕ) (faulty : ℕ → Bool) (last since : ℕ) (seen : ℕ → Option Seen)
+pub explained_fits : (beat : ℕ) (faulty : ℕ → Bool) (last since : ℕ) (seen : ℕ → Option Observation)
     (e : Explanation)
     → Explained beat faulty last since seen e.window e.leader e.phase e.king
     → Fits beat since last e
@@ -33,12 +33,13 @@ explained_fits beat faulty last since seen e why = record {
   ends = why.ends;
 }
 
-module _ (beat : ℕ) (six : 6 ≤ beat) (faulty : ℕ → Bool) (last since : ℕ) (seen : ℕ → Option Seen)
-    (small : (c : ℕ) (s : Seen) → seen c ≡ Some s → s.part < beat) (e : Explanation) where
+module _ (beat : ℕ) (six : 6 ≤ beat) (faulty : ℕ → Bool) (last since : ℕ)
+    (seen : ℕ → Option Observation)
+    (small : (c : ℕ) (s : Observation) → seen c ≡ Some s → s.part < beat) (e : Explanation) where
   abbrev Why : Type 0
   Why = Explained beat faulty last since seen e.window e.leader e.phase e.king
 
-  passing : (c count : ℕ) (o : Option Seen) → c + 1 ≡ e.window + beat
+  passing : (c count : ℕ) (o : Option Observation) → c + 1 ≡ e.window + beat
       → Stands beat seen e.window (suc c) count o → Fits beat since last e
       → is_of_seen beat faulty last count o e ≡ true → Why
   passing c count None at h fits is = absurd (false≢true is)
@@ -116,12 +117,12 @@ module _ (beat : ℕ) (six : 6 ≤ beat) (faulty : ℕ → Bool) (last since : �
     passes_is : is_of beat faulty last (stretch_before beat e.window seen (e.window + beat)) e
         ≡ true
     passes_is =
-        let s : Stretch = stretch_before beat e.window seen (e.window + beat) in
+        let s : LeaderStreak = stretch_before beat e.window seen (e.window + beat) in
         let more = long.long in
-        ap (λ (o : Option Seen). is_of_seen beat faulty last s.count o e) long.seen
+        ap (λ (o : Option Observation). is_of_seen beat faulty last s.count o e) long.seen
         ∙ passes_all s.count (omega (arith, more, six))
 
-  -- it passes exactly where it explains
+  -- it passes exactly if it explains
   pub tested : Fits beat since last e
       →
       (is_of beat faulty last (stretch_before beat e.window seen (e.window + beat)) e ≡ true
@@ -165,7 +166,7 @@ module _ (plan : Plan) (script : Script) (is : IsTop (top_of plan)) (e : Explana
       (seen_at plan script) e (era_is_seen plan script is e.window e.leader e.phase e.king why)
 
 -- what is computed is that test
-pub result_is : (plan : Plan) (read script : Script) (top : Top) (played : Plan) (s : Stretch)
+pub result_is : (plan : Plan) (read script : Script) (top : Top) (played : Plan) (s : LeaderStreak)
     (e : Explanation) (result : Bool) → top ≡ top_of plan → played ≡ plan → read ≡ script
     → s ≡ stretch_before top.beat e.window (seen_at played script) (e.window + top.beat)
     → result ≡ is_of top.beat (is_faulty read) read.rounds s e
@@ -175,7 +176,7 @@ pub result_is : (plan : Plan) (read script : Script) (top : Top) (played : Plan)
     e
 result_is plan read script top played s e result top_is plan_is same stretch is =
     is ∙ (ap (λ (r : Script). is_of top.beat (is_faulty r) r.rounds s e) same
-    ∙ (ap (λ (s : Stretch). is_of top.beat (is_faulty script) script.rounds s e)
+    ∙ (ap (λ (s : LeaderStreak). is_of top.beat (is_faulty script) script.rounds s e)
     (stretch
     ∙ ap
     (λ (p : Plan). stretch_before top.beat e.window (seen_at p script) (e.window + top.beat))

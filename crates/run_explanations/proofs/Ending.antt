@@ -10,7 +10,7 @@ use Rattle.round_runner.specs.Known.{KnowsLocks}
 use Rattle.round_runner.specs.Runners.{Running}
 use Rattle.run_explanations.specs.declared.explaining.Search.{Search}
 use Rattle.run_explanations.specs.declared.explanations.Explanation.{Explanation}
-use Rattle.run_explanations.specs.declared.searching.Stretch.{Stretch}
+use Rattle.run_explanations.specs.declared.searching.LeaderStreak.{LeaderStreak}
 use Rattle.run_explanations.specs.declared.tops.Top.{Top}
 use Rattle.run_explanations.specs.Explanations.{is_faulty, seen_at}
 use Rattle.run_explanations.specs.Playing.{IsFound, IsEnough, HasPlayed}
@@ -21,7 +21,7 @@ use Rattle.run_explanations.proofs.Windows.{none_before}
 
 -- before the first configuration that is looked at there is no stretch
 pub stretch_begin : (top : Top) (from : ℕ) (plan : Plan) (script : Script) (c : ℕ) → c ≤ from
-    → (s : Stretch) → s ≡ no_stretch → s ≡ stretch_before top.beat from (seen_at plan script) c
+    → (s : LeaderStreak) → s ≡ no_stretch → s ≡ stretch_before top.beat from (seen_at plan script) c
 stretch_begin top from plan script c le s is =
     is ∙ sym (none_before top.beat (seen_at plan script) from c le)
 
@@ -31,7 +31,7 @@ module _ (top : Top) (from : ℕ) (plan : Plan) (script : Script) where
       (seen_at plan script) c ≡ None
   none_found zero le = refl
   none_found (suc c) le =
-      ap₂ (λ (o : Option Explanation) (s : Stretch). first_or o
+      ap₂ (λ (o : Option Explanation) (s : LeaderStreak). first_or o
       (explained_from top.beat (is_faulty script) script.rounds c s.count s.seen))
       (none_found c (omega (arith, le)))
       (none_before top.beat (seen_at plan script) from (suc c) le)
@@ -48,7 +48,7 @@ module _ (top : Top) (from : ℕ) (plan : Plan) (script : Script) where
 module _ (top : Top) (from : ℕ) (start r : Running NoOverlay) (search : Search)
     (found : IsFound top from start.plan start.script r.at search)
     (played : HasPlayed start r.at r) (within : r.at ≤ start.script.rounds) where
-  -- where it is not enough, a round is left
+  -- if it is not enough, a round is left
   pub round_left : (enough : Bool) → ((enough ≡ true) ↔ IsEnough search r) → enough ≡ false
       → r.at < r.script.rounds
   round_left enough exact not =
@@ -62,7 +62,7 @@ module _ (top : Top) (from : ℕ) (start r : Running NoOverlay) (search : Search
   all_found c = found_before top.beat (is_faulty start.script) start.script.rounds from
       (seen_at start.plan start.script) c
 
-  -- where it is, all is found with the runner's configuration
+  -- if it is, all is found with the runner's configuration
   pub found_all : (last : Search) → IsFound top from start.plan start.script (r.at + 1) last
       → IsEnough search r
       → last.found ≡ found_before top.beat (is_faulty start.script) start.script.rounds from

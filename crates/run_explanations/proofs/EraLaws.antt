@@ -1,4 +1,4 @@
--- What is explained of a script's last era is locked, and where it goes on to the bound, it is
+-- What is explained of a script's last era is locked, and if it goes on to the bound, it is
 -- explained.
 use Rattle.std.proofs.Common.{◌≡◌, ℕ, ◌+◌, ◌-◌, ◌*◌, ◌<◌, ◌≤◌, Bool, List, [], ◌∷◌, length}
 use Rattle.std.proofs.Common.{if◌then◌else◌, sym, ap, ◌∙◌, subst, arith}

@@ -34,7 +34,7 @@ module _ (test : ℕ → Bool) where
     | inr from ↦ (y, refl, from)
   ]
 
-  -- where a number passes, the first one is that or an earlier one
+  -- if a number passes, the first one is that or an earlier one
   pub first_known : (n x : ℕ) → x < n → test x ≡ true
       → (y : ℕ) × (first_below test n ≡ Some y) × (y ≤ x)
   first_known n x lt e = first_at_most (first_below test n) n x (first_is n) lt e

@@ -9,14 +9,14 @@ use Rattle.std.proofs.lemmas.Bool.{false≢true, and_parts, and_from, eqb-true, 
 use Rattle.std.proofs.lemmas.Bool.{le-leb, not-true, not_from_false, cases_lt}
 use Rattle.std.proofs.lemmas.Option.{none-some, same_Some}
 use Rattle.run_explanations.specs.declared.explanations.Explanation.{Explanation}
-use Rattle.run_explanations.specs.declared.seeing.Seen.{Seen}
+use Rattle.run_explanations.specs.declared.seeing.Observation.{Observation}
 use Rattle.run_explanations.specs.Searching.{stretch_before, begins_phase, first_below}
 use Rattle.run_explanations.specs.Searching.{explained_by, explained_in, explained_from}
 use Rattle.run_explanations.specs.Searching.{explained_at, found_before}
 use Rattle.run_explanations.proofs.Firsts.{IsFirst, first_is, first_known, IsFirstKnown, known_more}
 use Rattle.run_explanations.proofs.Windows.{IsWindow, Ends, Stands, stands, IsLong, window_long}
 
-module _ (beat : ℕ) (faulty : ℕ → Bool) (last from : ℕ) (seen_at : ℕ → Option Seen) where
+module _ (beat : ℕ) (faulty : ℕ → Bool) (last from : ℕ) (seen_at : ℕ → Option Observation) where
   -- a window of leader b from configuration t on, and in it the phase of king k from s on
   pub record Explained (t b s k : ℕ) : Type 0 where
     pub since : from ≤ t
@@ -30,8 +30,9 @@ module _ (beat : ℕ) (faulty : ℕ → Bool) (last from : ℕ) (seen_at : ℕ �
     pub phase : (p + (s - t)) % beat ≡ 3 * k
     pub king : faulty k ≡ false
 
-module _ (beat : ℕ) (six : 6 ≤ beat) (faulty : ℕ → Bool) (last from : ℕ) (seen_at : ℕ → Option Seen)
-    (small : (c : ℕ) (seen : Seen) → seen_at c ≡ Some seen → seen.part < beat) where
+module _ (beat : ℕ) (six : 6 ≤ beat) (faulty : ℕ → Bool) (last from : ℕ)
+    (seen_at : ℕ → Option Observation)
+    (small : (c : ℕ) (seen : Observation) → seen_at c ≡ Some seen → seen.part < beat) where
   -- these explain
   abbrev Why : (t b s k : ℕ) → Type 0
   Why = Explained beat faulty last from seen_at
@@ -60,7 +61,7 @@ module _ (beat : ℕ) (six : 6 ≤ beat) (faulty : ℕ → Bool) (last from : �
       (omega (arith, zero_rest), not-true _ v.1, leb-true _ _ u.1)
 
   -- the window that ends with a stretch
-  pub last_window : (c count : ℕ) (seen : Seen) → Ends beat seen_at from (suc c) count seen
+  pub last_window : (c count : ℕ) (seen : Observation) → Ends beat seen_at from (suc c) count seen
       → beat ≤ count
       → IsWindow beat seen_at (c + 1 - beat) beat seen.leader ((seen.part + 1) % beat)
   last_window c count seen ends long = record {
@@ -77,7 +78,7 @@ module _ (beat : ℕ) (six : 6 ≤ beat) (faulty : ℕ → Bool) (last from : �
         ∙ ap (λ (q : ℕ). (q + y) % beat) (sym ends.next)))));
   }
 
-  last_begins : (c count : ℕ) (seen : Seen) → Ends beat seen_at from (suc c) count seen
+  last_begins : (c count : ℕ) (seen : Observation) → Ends beat seen_at from (suc c) count seen
       → beat ≤ count
       → (from ≤ c + 1 - beat) × (c + 1 - beat + beat ≡ c + 1)
   last_begins c count seen ends long =
@@ -93,12 +94,15 @@ module _ (beat : ℕ) (six : 6 ≤ beat) (faulty : ℕ → Bool) (last from : �
       let e : Some (record { leader = b'; part = (p' + 0) % beat })
       ≡ Some (record { leader = b; part = (p + 0) % beat }) =
       sym (w'.each 0 (omega (arith, six))) ∙ w.each 0 (omega (arith, six)) in
-      let s : ◌≡◌ {A = Seen} (record { leader = b'; part = (p' + 0) % beat })
+      let s : ◌≡◌ {A = Observation} (record { leader = b'; part = (p' + 0) % beat })
       (record { leader = b; part = (p + 0) % beat }) =
       same_Some _ _ e in
       let rest : (q : ℕ) → q < beat → (q + 0) % beat ≡ q = λ q small.
-      ap (λ (y : ℕ). y % beat) (add-zero q) ∙ mod-eq_of_lt small in
-      (ap (λ (s : Seen). s.leader) s, sym (rest p' lt') ∙ (ap (λ (s : Seen). s.part) s ∙ rest p lt))
+      ap (λ (y : ℕ). y % beat) (add-zero q) ∙ mod-eq_of_lt small in (
+        ap (λ (s : Observation). s.leader) s,
+        sym (rest p' lt')
+            ∙ (ap (λ (s : Observation). s.part) s ∙ rest p lt),
+      )
 
   -- what is found in a window: it explains, and no phase of this window is earlier
   pub record IsFoundIn (t : ℕ) (e : Explanation) : Type 0 where
@@ -143,7 +147,8 @@ module _ (beat : ℕ) (six : 6 ≤ beat) (faulty : ℕ → Bool) (last from : �
             ];
       })
 
-  found_gate : (c count : ℕ) (seen : Seen) (b : Bool) (e : Explanation) → nat_le beat count ≡ b
+  found_gate : (c count : ℕ) (seen : Observation) (b : Bool) (e : Explanation)
+      → nat_le beat count ≡ b
       → c ≤ last → Ends beat seen_at from (suc c) count seen
       → (if b then explained_in beat faulty last (c + 1 - beat) seen.leader ((seen.part + 1) % beat)
       else None)
@@ -163,7 +168,7 @@ module _ (beat : ℕ) (six : 6 ≤ beat) (faulty : ℕ → Bool) (last from : �
       (first_is (begins_phase beat faulty last (c + 1 - beat) ((seen.part + 1) % beat)) (beat - 2))
       is
 
-  found_from : (c count : ℕ) (seen : Option Seen) (e : Explanation) → c ≤ last
+  found_from : (c count : ℕ) (seen : Option Observation) (e : Explanation) → c ≤ last
       → Stands beat seen_at from (suc c) count seen
       → explained_from beat faulty last c count seen ≡ Some e → IsFoundIn (c + 1 - beat) e
   found_from c count None e le h is = absurd (none-some e is)

@@ -8,7 +8,7 @@ use Rattle.counting.proofs.Places.{one_fails}
 use Rattle.construction.specs.Plans.{interval_of}
 use Rattle.run_explanations.specs.declared.seeing.Shared.{Shared}
 use Rattle.run_explanations.specs.declared.seeing.Shared.TheVariants.{Nothing, One, Several}
-use Rattle.run_explanations.specs.declared.seeing.Seen.{Seen}
+use Rattle.run_explanations.specs.declared.seeing.Observation.{Observation}
 use Rattle.run_explanations.specs.declared.tops.Top.{Top}
 use Rattle.run_explanations.specs.Seeing.{shared_by, is_sound, is_correct, pointer_at, part_at}
 use Rattle.run_explanations.specs.Seeing.{pointed, parted, seen_parts, seen_leader, seen_in, Sees}
@@ -102,12 +102,12 @@ module _ (top : Top) (faulty : ℕ → Bool) (outputs : ℕ → ℕ) where
   -- ---- what is seen is shown
 
   -- that this is shown, and the part is one of the beat
-  pub record Shows (seen : Seen) : Type 0 where
+  pub record Shows (seen : Observation) : Type 0 where
     pub sees : Sees top faulty outputs seen.leader seen.part
     pub below : seen.part < top.beat
 
   module _ (is : IsTop top) where
-    sees_parts : (b : ℕ) (parts : Shared) (seen : Seen)
+    sees_parts : (b : ℕ) (parts : Shared) (seen : Observation)
         → pointed top faulty outputs top.blocks ≡ One b
         → is_sound top faulty b ≡ true → parted top faulty outputs b ≡ parts
         → seen_parts top faulty outputs b parts ≡ Some seen → Shows seen
@@ -116,7 +116,7 @@ module _ (top : Top) (faulty : ℕ → Bool) (outputs : ℕ → ℕ) where
     sees_parts b (One p) seen points ok parts e =
         let leaders = is.leaders in
         let beat = is.beat in
-        let here : Seen = record { leader = b; part = p } in
+        let here : Observation = record { leader = b; part = p } in
         subst Shows (same_Some here seen e) (record {
           sees = record {
             leader = leader_below b top.blocks (omega (arith, leaders)) points;
@@ -131,7 +131,8 @@ module _ (top : Top) (faulty : ℕ → Bool) (outputs : ℕ → ℕ) where
           below = part_below b p (omega (arith, beat)) parts;
         })
 
-    sees_sound : (b : ℕ) (ok : Bool) (seen : Seen) → pointed top faulty outputs top.blocks ≡ One b
+    sees_sound : (b : ℕ) (ok : Bool) (seen : Observation)
+        → pointed top faulty outputs top.blocks ≡ One b
         → is_sound top faulty b ≡ ok
         → (if ok then seen_parts top faulty outputs b (parted top faulty outputs b) else None)
         ≡ Some seen
@@ -140,13 +141,13 @@ module _ (top : Top) (faulty : ℕ → Bool) (outputs : ℕ → ℕ) where
         sees_parts b (parted top faulty outputs b) seen points ok refl e
     sees_sound b false seen points ok e = absurd (none-some seen e)
 
-    sees_leader : (s : Shared) (seen : Seen) → pointed top faulty outputs top.blocks ≡ s
+    sees_leader : (s : Shared) (seen : Observation) → pointed top faulty outputs top.blocks ≡ s
         → seen_leader top faulty outputs s ≡ Some seen → Shows seen
     sees_leader Nothing seen points e = absurd (none-some seen e)
     sees_leader Several seen points e = absurd (none-some seen e)
     sees_leader (One b) seen points e = sees_sound b (is_sound top faulty b) seen points refl e
 
-    pub seen_shows : (seen : Seen) → seen_in top faulty outputs ≡ Some seen → Shows seen
+    pub seen_shows : (seen : Observation) → seen_in top faulty outputs ≡ Some seen → Shows seen
     seen_shows seen e = sees_leader (pointed top faulty outputs top.blocks) seen refl e
 
     -- ---- what is shown is seen

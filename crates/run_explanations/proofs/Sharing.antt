@@ -33,7 +33,7 @@ one_is Several x some h = absurd h
 pub one_fits : (s : Shared) (x : ℕ) → s ≡ One x → Fits s x
 one_fits s x e = subst (λ (s : Shared). Fits s x) (sym e) refl
 
--- ---- a number more
+-- ---- one more number
 
 one_fits_more : (known number x : ℕ) (b : Bool) → nat_eq known number ≡ b → known ≡ x → number ≡ x
     → Fits (if b then One known else Several) x
@@ -77,7 +77,7 @@ joined_holds P Nothing number h g = g
 joined_holds P (One known) number h g = one_holds P known (nat_eq known number) h
 joined_holds P Several number h g = tt
 
--- ---- a place more, which counts or does not
+-- ---- one more place, which counts or does not
 
 pub gate_fits : (old new : Shared) (x : ℕ) (b : Bool) → Fits old x → (b ≡ true → Fits new x)
     → Fits (if b then new else old) x

@@ -4,10 +4,10 @@ use Rattle.std.proofs.Common.{refl, sym, ap, ◌∙◌, arith}
 use Rattle.std.specs.Prelude.{is_some}
 use Rattle.std.proofs.lemmas.Bool.{true≢false}
 use Rattle.run_explanations.specs.declared.explanations.Explanation.{Explanation}
-use Rattle.run_explanations.specs.declared.seeing.Seen.{Seen}
+use Rattle.run_explanations.specs.declared.seeing.Observation.{Observation}
 use Rattle.run_explanations.specs.Searching.{first_or, explained_at, found_before}
 
-module _ (beat : ℕ) (faulty : ℕ → Bool) (last from : ℕ) (seen_at : ℕ → Option Seen) where
+module _ (beat : ℕ) (faulty : ℕ → Bool) (last from : ℕ) (seen_at : ℕ → Option Observation) where
   abbrev found : ℕ → Option Explanation
   found c = found_before beat faulty last from seen_at c
 
@@ -25,7 +25,7 @@ module _ (beat : ℕ) (faulty : ℕ → Bool) (last from : ℕ) (seen_at : ℕ �
   by_known None c d is some le = absurd (true≢false (sym some))
   by_known (Some e) c d is some le = stays e c 1 is ∙ sym (stays e c d is)
 
-  -- with the next configuration as much is found as with all, where something was
+  -- with the next configuration as much is found as with all, if something was
   pub found_in_all : (c : ℕ) → c ≤ last
       → is_some (found_before beat faulty last from seen_at c) ≡ true
       → found_before beat faulty last from seen_at (c + 1)

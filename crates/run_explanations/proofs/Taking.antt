@@ -12,11 +12,11 @@ use Rattle.adversary_script.specs.Eras.{faulty_of_era, first_of_era}
 use Rattle.round_runner.specs.Played.{played_at}
 use Rattle.round_runner.specs.Runners.{Running}
 use Rattle.round_runner.specs.Skipping.{IsSkipped}
-use Rattle.round_runner.proofs.Firsts.{era_some, end_within}
+use Rattle.machine_runner.proofs.Firsts.{era_some, end_within}
 use Rattle.run_explanations.specs.declared.explaining.Search.{Search}
 use Rattle.run_explanations.specs.declared.explanations.Explanation.{Explanation}
-use Rattle.run_explanations.specs.declared.searching.Stretch.{Stretch}
-use Rattle.run_explanations.specs.declared.seeing.Seen.{Seen}
+use Rattle.run_explanations.specs.declared.searching.LeaderStreak.{LeaderStreak}
+use Rattle.run_explanations.specs.declared.seeing.Observation.{Observation}
 use Rattle.run_explanations.specs.declared.tops.Top.{Top}
 use Rattle.run_explanations.specs.Explanations.{era_begin, is_faulty, outputs_in, seen_at}
 use Rattle.run_explanations.specs.Explanations.{explanation_of}
@@ -53,7 +53,7 @@ begin_within script whole =
 
 -- the part that is seen is one of the beat
 pub part_small : (plan : Plan) (script : Script) (top : Top) → IsTop top → top ≡ top_of plan
-    → (c : ℕ) (seen : Seen) → seen_at plan script c ≡ Some seen → seen.part < top.beat
+    → (c : ℕ) (seen : Observation) → seen_at plan script c ≡ Some seen → seen.part < top.beat
 part_small plan script top is same c seen e =
     (seen_shows top (is_faulty script) (outputs_in (plan_depth plan - 1) (played_at plan script c))
     is seen
@@ -116,7 +116,7 @@ read_on top start r c read played le =
 
 -- what is seen in the runner's configuration
 pub seen_is : (top : Top) (r : Running NoOverlay) → IsRead top r
-    → (ids : List ℕ) (seen : Option Seen)
+    → (ids : List ℕ) (seen : Option Observation)
     → seen ≡ seen_in top (is_in ids) (outputs_in (plan_depth r.plan - 1) r.states)
     → ids ≡ faulty_of_era r.script (length r.script.eras)
     → r.states ≡ played_at r.plan r.script r.at → seen ≡ seen_at r.plan r.script r.at
@@ -135,24 +135,24 @@ seen_is top r read ids seen is faulty states =
     (outputs_in (plan_depth r.plan - 1) (played_at r.plan r.script r.at)))
     read.top_is))
 
--- a stretch with a configuration more is no longer than by one
-longer_by : (s : Stretch) (b : Bool) → (if b then s.count + 1 else 1) ≤ s.count + 1
+-- one more configuration makes a stretch longer by one at most
+longer_by : (s : LeaderStreak) (b : Bool) → (if b then s.count + 1 else 1) ≤ s.count + 1
 longer_by s true = omega arith
 longer_by s false = omega arith
 
-pub stretched_most : (beat : ℕ) (s : Stretch) (o : Option Seen)
+pub stretched_most : (beat : ℕ) (s : LeaderStreak) (o : Option Observation)
     → (stretched beat s o).count ≤ s.count + 1
 stretched_most beat s None = omega arith
 stretched_most beat s (Some now) = longer_by s (goes_on beat s.seen now)
 
 -- ---- what is taken
 
-module _ (top : Top) (plan : Plan) (script : Script) (c : ℕ) (search : Search) (s : Stretch)
+module _ (top : Top) (plan : Plan) (script : Script) (c : ℕ) (search : Search) (s : LeaderStreak)
     (is : s ≡ stretched top.beat search.stretch (seen_at plan script c)) where
-  abbrev new_in : Stretch → Option Explanation
+  abbrev new_in : LeaderStreak → Option Explanation
   new_in s = explained_from top.beat (is_faulty script) script.rounds c s.count s.seen
 
-  abbrev made : Stretch → Option Explanation → Search
+  abbrev made : LeaderStreak → Option Explanation → Search
   made s o = record { stretch = s; found = o }
 
   pub taken_known : (e : Explanation) → search.found ≡ Some e
@@ -181,24 +181,25 @@ module _ (top : Top) (plan : Plan) (script : Script) (c : ℕ) (search : Search)
 -- ---- what was taken before
 
 module _ (top : Top) (from : ℕ) (plan : Plan) (script : Script) where
-  abbrev before : ℕ → Stretch
+  abbrev before : ℕ → LeaderStreak
   before c = stretch_before top.beat from (seen_at plan script) c
 
   abbrev found_to : ℕ → Option Explanation
   found_to c = found_before top.beat (is_faulty script) script.rounds from (seen_at plan script) c
 
   -- a stretch is no longer than the configurations before
-  pub count_now : IsTop top → top ≡ top_of plan → (c : ℕ) (s : Stretch) → s ≡ before c → s.count ≤ c
+  pub count_now : IsTop top → top ≡ top_of plan → (c : ℕ) (s : LeaderStreak) → s ≡ before c
+      → s.count ≤ c
   count_now small same c s is =
       let most = count_most top.beat (seen_at plan script) from
       (part_small plan script top small same) c in
-      let count = ap (λ (s : Stretch). s.count) is in
+      let count = ap (λ (s : LeaderStreak). s.count) is in
       omega (arith, most, count)
 
-  pub stretch_next : (c : ℕ) (s now : Stretch) → from ≤ c → s ≡ before c
+  pub stretch_next : (c : ℕ) (s now : LeaderStreak) → from ≤ c → s ≡ before c
       → now ≡ stretched top.beat s (seen_at plan script c) → now ≡ before (c + 1)
   stretch_next c s now le is more =
-      more ∙ (ap (λ (s : Stretch). stretched top.beat s (seen_at plan script c)) is
+      more ∙ (ap (λ (s : LeaderStreak). stretched top.beat s (seen_at plan script c)) is
       ∙ (sym (begun top.beat (seen_at plan script) from c le) ∙ ap before (sym (add-one c))))
 
   pub found_next : (c : ℕ) (search now : Search) → from ≤ c
@@ -206,12 +207,12 @@ module _ (top : Top) (from : ℕ) (plan : Plan) (script : Script) where
       → IsFound top from plan script (c + 1) now
   found_next c search now le found is =
       let stretch : (taken top plan script c search).stretch ≡ before (suc c) =
-      ap (λ (s : Stretch). stretched top.beat s (seen_at plan script c)) found.stretch
+      ap (λ (s : LeaderStreak). stretched top.beat s (seen_at plan script c)) found.stretch
       ∙ sym (begun top.beat (seen_at plan script) from c le) in
       record {
         stretch = ap (λ (s : Search). s.stretch) is ∙ (stretch ∙ ap before (sym (add-one c)));
         found = ap (λ (s : Search). s.found) is
-            ∙ (ap₂ (λ (o : Option Explanation) (s : Stretch). first_or o
+            ∙ (ap₂ (λ (o : Option Explanation) (s : LeaderStreak). first_or o
             (explained_from top.beat (is_faulty script) script.rounds c s.count s.seen))
             found.found stretch
             ∙ ap found_to (sym (add-one c)));
@@ -219,13 +220,13 @@ module _ (top : Top) (from : ℕ) (plan : Plan) (script : Script) where
 
 -- of a runner that goes on
 module _ (top : Top) (from : ℕ) (start r : Running NoOverlay) where
-  pub stretch_taken : (c : ℕ) → HasPlayed start c r → from ≤ c → (s now : Stretch)
+  pub stretch_taken : (c : ℕ) → HasPlayed start c r → from ≤ c → (s now : LeaderStreak)
       → s ≡ stretch_before top.beat from (seen_at start.plan start.script) c
       → now ≡ stretched top.beat s (seen_at r.plan r.script r.at)
       → now ≡ stretch_before top.beat from (seen_at start.plan start.script) (c + 1)
   stretch_taken c played le s now is more =
       stretch_next top from start.plan start.script c s now le is
-      (more ∙ ap (λ (o : Option Seen). stretched top.beat s o)
+      (more ∙ ap (λ (o : Option Observation). stretched top.beat s o)
       (ap₂ (λ (p : Plan) (t : Script). seen_at p t r.at) played.plan played.script
       ∙ ap (λ (c : ℕ). seen_at start.plan start.script c) played.at))
 

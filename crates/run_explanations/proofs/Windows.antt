@@ -6,11 +6,11 @@ use Rattle.std.specs.Prelude.{nat_eq, nat_le}
 use Rattle.std.proofs.Math.Nat.{mod-add-mod, mod-eq_of_lt}
 use Rattle.std.proofs.lemmas.Bool.{and_parts, and_from, eqb-true, eq-eqb, leb-true, leb-false}
 use Rattle.std.proofs.lemmas.Bool.{le-leb, lt-leb, cases_lt}
-use Rattle.run_explanations.specs.declared.seeing.Seen.{Seen}
-use Rattle.run_explanations.specs.declared.searching.Stretch.{Stretch}
+use Rattle.run_explanations.specs.declared.seeing.Observation.{Observation}
+use Rattle.run_explanations.specs.declared.searching.LeaderStreak.{LeaderStreak}
 use Rattle.run_explanations.specs.Searching.{goes_on, no_stretch, stretched, stretch_before}
 
-module _ (beat : ℕ) (seen_at : ℕ → Option Seen) where
+module _ (beat : ℕ) (seen_at : ℕ → Option Observation) where
   -- From configuration t on, m configurations show leader b, and a part that is p and grows by one.
   pub record IsWindow (t m b p : ℕ) : Type 0 where
     pub each : (x : ℕ) → x < m
@@ -18,7 +18,7 @@ module _ (beat : ℕ) (seen_at : ℕ → Option Seen) where
 
   module _ (from : ℕ) where
     -- the stretch that ends before configuration c
-    pub record Ends (c count : ℕ) (seen : Seen) : Type 0 where
+    pub record Ends (c count : ℕ) (seen : Observation) : Type 0 where
       pub t : ℕ
       pub p : ℕ
       pub at : t + count ≡ c
@@ -27,7 +27,7 @@ module _ (beat : ℕ) (seen_at : ℕ → Option Seen) where
       pub window : IsWindow t count seen.leader p
       pub next : (seen.part + 1) % beat ≡ (p + count) % beat
 
-    abbrev pub Stands : (c count : ℕ) → Option Seen → Type 0
+    abbrev pub Stands : (c count : ℕ) → Option Observation → Type 0
     Stands c count None = count ≡ 0
     Stands c count (Some seen) = Ends c count seen
 
@@ -48,9 +48,9 @@ module _ (beat : ℕ) (seen_at : ℕ → Option Seen) where
         else stretch_before beat from seen_at c)
         (le-leb from c h)
 
-    module _ (small : (c : ℕ) (seen : Seen) → seen_at c ≡ Some seen → seen.part < beat) where
+    module _ (small : (c : ℕ) (seen : Observation) → seen_at c ≡ Some seen → seen.part < beat) where
       -- one configuration is a stretch
-      single : (c : ℕ) (now : Seen) → from ≤ c → seen_at c ≡ Some now → Ends (suc c) 1 now
+      single : (c : ℕ) (now : Observation) → from ≤ c → seen_at c ≡ Some now → Ends (suc c) 1 now
       single c now le is = record {
         t = c;
         p = now.part;
@@ -72,7 +72,7 @@ module _ (beat : ℕ) (seen_at : ℕ → Option Seen) where
       }
 
       -- a stretch that goes on is longer by one
-      longer : (c count : ℕ) (before now : Seen) → Ends c count before → seen_at c ≡ Some now
+      longer : (c count : ℕ) (before now : Observation) → Ends c count before → seen_at c ≡ Some now
           → before.leader ≡ now.leader → now.part ≡ (before.part + 1) % beat
           → Ends (suc c) (count + 1) now
       longer c count before now ends is leader part =
@@ -106,7 +106,7 @@ module _ (beat : ℕ) (seen_at : ℕ → Option Seen) where
                 ∙ (mod-add-mod (ends.p + count) beat 1 ∙ ap (λ (p : ℕ). p % beat) one_more);
           }
 
-      goes : (c count : ℕ) (before now : Seen) (b : Bool) → from ≤ c → Ends c count before
+      goes : (c count : ℕ) (before now : Observation) (b : Bool) → from ≤ c → Ends c count before
           → seen_at c ≡ Some now → goes_on beat (Some before) now ≡ b
           → Ends (suc c) (if b then count + 1 else 1) now
       goes c count before now true le ends is e =
@@ -115,7 +115,7 @@ module _ (beat : ℕ) (seen_at : ℕ → Option Seen) where
           longer c count before now ends is (eqb-true _ _ p.0) (eqb-true _ _ p.1)
       goes c count before now false le ends is e = single c now le is
 
-      take_one : (c count : ℕ) (before now : Option Seen) → from ≤ c → Stands c count before
+      take_one : (c count : ℕ) (before now : Option Observation) → from ≤ c → Stands c count before
           → seen_at c ≡ now
           → Stands (suc c) (stretched beat (record { seen = before; count = count }) now).count
           (stretched beat (record { seen = before; count = count }) now).seen
@@ -131,11 +131,11 @@ module _ (beat : ℕ) (seen_at : ℕ → Option Seen) where
           (stretch_before beat from seen_at (suc c)).seen
       stands_more c true e h =
           let le = leb-true from c e in
-          subst (λ (s : Stretch). Stands (suc c) s.count s.seen) (sym (begun c le))
+          subst (λ (s : LeaderStreak). Stands (suc c) s.count s.seen) (sym (begun c le))
           (take_one c (stretch_before beat from seen_at c).count
           (stretch_before beat from seen_at c).seen (seen_at c) le h refl)
       stands_more c false e h =
-          subst (λ (s : Stretch). Stands (suc c) s.count s.seen)
+          subst (λ (s : LeaderStreak). Stands (suc c) s.count s.seen)
           (sym (none_before (suc c) (let lt = leb-false from c e in omega (arith, lt)))) refl
 
       -- each stretch is one
@@ -144,7 +144,7 @@ module _ (beat : ℕ) (seen_at : ℕ → Option Seen) where
       stands zero = refl
       stands (suc c) = stands_more c (nat_le from c) refl (stands c)
 
-      count_of : (c count : ℕ) (seen : Option Seen) → Stands c count seen → count ≤ c
+      count_of : (c count : ℕ) (seen : Option Observation) → Stands c count seen → count ≤ c
       count_of c count None h = omega (arith, h)
       count_of c count (Some seen) h = let at = h.at in omega (arith, at)
 
@@ -155,35 +155,36 @@ module _ (beat : ℕ) (seen_at : ℕ → Option Seen) where
     -- ---- each window is in a stretch
 
     -- a stretch of more than m configurations, which ends with leader b and part q
-    pub record IsLong (m b q : ℕ) (s : Stretch) : Type 0 where
+    pub record IsLong (m b q : ℕ) (s : LeaderStreak) : Type 0 where
       pub long : m < s.count
       pub seen : s.seen ≡ Some (record { leader = b; part = q })
 
-    begins_long : (s : Stretch) (b q : ℕ) (g : Bool) → 0 < (if g then s.count + 1 else 1)
+    begins_long : (s : LeaderStreak) (b q : ℕ) (g : Bool) → 0 < (if g then s.count + 1 else 1)
     begins_long s b q true = omega arith
     begins_long s b q false = omega arith
 
-    first_long : (s : Stretch) (now : Option Seen) (b q : ℕ)
+    first_long : (s : LeaderStreak) (now : Option Observation) (b q : ℕ)
         → now ≡ Some (record { leader = b; part = q }) → IsLong 0 b q (stretched beat s now)
     first_long s now b q e =
-        subst (λ (now : Option Seen). IsLong 0 b q (stretched beat s now)) (sym e) (record {
+        subst (λ (now : Option Observation). IsLong 0 b q (stretched beat s now)) (sym e) (record {
           long = begins_long s b q (goes_on beat s.seen (record { leader = b; part = q }));
           seen = refl;
         })
 
-    more_long : (s : Stretch) (now : Option Seen) (m b q r : ℕ) → IsLong m b q s
+    more_long : (s : LeaderStreak) (now : Option Observation) (m b q r : ℕ) → IsLong m b q s
         → now ≡ Some (record { leader = b; part = r }) → r ≡ (q + 1) % beat
         → IsLong (suc m) b r (stretched beat s now)
     more_long s now m b q r is e next =
         let on : goes_on beat s.seen (record { leader = b; part = r }) ≡ true =
-        ap (λ (o : Option Seen). goes_on beat o (record { leader = b; part = r })) is.seen
+        ap (λ (o : Option Observation). goes_on beat o (record { leader = b; part = r })) is.seen
         ∙ and_from (nat_eq b b) (nat_eq r ((q + 1) % beat)) (eq-eqb b b refl) (eq-eqb _ _ next) in
         let count :
         (if goes_on beat s.seen (record { leader = b; part = r }) then s.count + 1 else 1)
         ≡ s.count + 1 =
         ap (λ (g : Bool). if g then s.count + 1 else 1) on in
         let long = is.long in
-        subst (λ (now : Option Seen). IsLong (suc m) b r (stretched beat s now)) (sym e) (record {
+        subst (λ (now : Option Observation). IsLong (suc m) b r (stretched beat s now)) (sym e)
+        (record {
           long = omega (arith, count, long);
           seen = refl;
         })

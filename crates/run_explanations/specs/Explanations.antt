@@ -11,7 +11,7 @@ use Rattle.adversary_script.specs.Scripts.{Script}
 use Rattle.adversary_script.specs.Eras.{first_of_era, faulty_of_era}
 use Rattle.round_runner.specs.Played.{played_at}
 use Rattle.run_explanations.specs.declared.explanations.Explanation.{Explanation}
-use Rattle.run_explanations.specs.declared.seeing.Seen.{Seen}
+use Rattle.run_explanations.specs.declared.seeing.Observation.{Observation}
 use Rattle.run_explanations.specs.Tops.{top_of}
 use Rattle.run_explanations.specs.Seeing.{seen_in}
 use Rattle.run_explanations.specs.Searching.{found_before}
@@ -53,7 +53,7 @@ pub record IsFirst (plan : Plan) (script : Script) (e : Explanation) : Type 0 wh
   pub first : (t b s k : ℕ) → ExplainsEra plan script t b s k
       → (e.window ≤ t) × (t ≡ e.window → e.phase ≤ s)
 
--- the first explanation, or none exactly where there is none
+-- the first explanation, or none exactly if there is none
 abbrev pub IsFirstOrNone : Plan → Script → Option Explanation → Type 0
 IsFirstOrNone plan script (Some e) = IsFirst plan script e
 IsFirstOrNone plan script None = (t b s k : ℕ) → ExplainsEra plan script t b s k → ⊥
@@ -61,11 +61,11 @@ IsFirstOrNone plan script None = (t b s k : ℕ) → ExplainsEra plan script t b
 -- ---- as it is found
 
 -- what is seen in a configuration of the last era
-abbrev pub seen_of : Plan → Script → List State → Option Seen
+abbrev pub seen_of : Plan → Script → List State → Option Observation
 seen_of plan script config =
     seen_in (top_of plan) (is_faulty script) (outputs_in (plan_depth plan - 1) config)
 
-abbrev pub seen_at : Plan → Script → (c : ℕ) → Option Seen
+abbrev pub seen_at : Plan → Script → (c : ℕ) → Option Observation
 seen_at plan script c = seen_of plan script (played_at plan script c)
 
 -- the explanation of what is played

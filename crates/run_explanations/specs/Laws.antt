@@ -26,13 +26,13 @@ pub record IsExplainedByBound (plan : Plan) (script : Script) : Type 0 where
   pub explains : ExplainsEra plan script t b s k
   pub by_bound : t + (top_of plan).beat ≤ era_begin script + plan_bound plan
 
--- Where the last era goes on to the bound, there is one.
+-- If the last era goes on to the bound, there is one.
 abbrev pub LongErasAreExplained : Type 0
 LongErasAreExplained = (plan : Plan) (script : Script) → IsReadFor plan script
     → 1 ≤ plan_depth plan → era_begin script + plan_bound plan ≤ script.rounds
     → IsExplainedByBound plan script
 
--- The explanation that is found is the first one, and none is found exactly where there is none.
+-- The explanation that is found is the first one, and none is found exactly if there is none.
 abbrev pub FoundIsFirst : Type 0
 FoundIsFirst = (plan : Plan) (script : Script) → IsAccepted plan → 1 ≤ plan_depth plan
     → IsFirstOrNone plan script (explanation_of plan script)

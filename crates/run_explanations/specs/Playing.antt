@@ -8,7 +8,7 @@ use Rattle.round_runner.specs.Known.{KnowsLocks}
 use Rattle.round_runner.specs.Runners.{Running, IsPlaying}
 use Rattle.run_explanations.specs.declared.explaining.Search.{Search}
 use Rattle.run_explanations.specs.declared.explanations.Explanation.{Explanation}
-use Rattle.run_explanations.specs.declared.searching.Stretch.{Stretch}
+use Rattle.run_explanations.specs.declared.searching.LeaderStreak.{LeaderStreak}
 use Rattle.run_explanations.specs.declared.tops.Top.{Top}
 use Rattle.run_explanations.specs.Checking.{Fits}
 use Rattle.run_explanations.specs.Explanations.{era_begin, is_faulty, seen_at}
@@ -44,7 +44,7 @@ pub record IsFound (top : Top) (from : ℕ) (plan : Plan) (script : Script) (c :
 -- a search with configuration c too
 abbrev pub taken : Top → Plan → Script → (c : ℕ) → Search → Search
 taken top plan script c search =
-    let stretch : Stretch = stretched top.beat search.stretch (seen_at plan script c) in
+    let stretch : LeaderStreak = stretched top.beat search.stretch (seen_at plan script c) in
     record {
       stretch = stretch;
       found = first_or search.found (explained_from top.beat (is_faulty script) script.rounds c

@@ -1,25 +1,25 @@
--- The search for an explanation, by what each configuration shows. A stretch tells for how many
--- configurations one leader has been seen, with a part that grows by one; where it is as long as
--- the beat, a window ends.
+-- The search for an explanation, by what each configuration shows. A stretch says for how many
+-- configurations one leader has been seen, with a part that grows by one; when it is as long as the
+-- beat, a window ends.
 use Rattle.std.specs.Prelude.{ℕ, zero, suc, ◌+◌, ◌-◌, ◌/◌, ◌%◌, Bool, false, not, ◌==◌, ◌&&◌}
 use Rattle.std.specs.Prelude.{nat_le, Option, Some, None, if◌then◌else◌}
 use Rattle.std.specs.Option.{option_map}
 use Rattle.run_explanations.specs.declared.explanations.Explanation.{Explanation}
-use Rattle.run_explanations.specs.declared.seeing.Seen.{Seen}
-use Rattle.run_explanations.specs.declared.searching.Stretch.{Stretch}
+use Rattle.run_explanations.specs.declared.seeing.Observation.{Observation}
+use Rattle.run_explanations.specs.declared.searching.LeaderStreak.{LeaderStreak}
 
 -- whether what is seen goes on: the same leader, and a part that is one more
-abbrev pub goes_on : (beat : ℕ) → Option Seen → Seen → Bool
+abbrev pub goes_on : (beat : ℕ) → Option Observation → Observation → Bool
 goes_on beat None now = false
 goes_on beat (Some before) now =
     before.leader == now.leader && now.part == (before.part + 1) % beat
 
 -- a stretch of no configuration
-abbrev pub no_stretch : Stretch
+abbrev pub no_stretch : LeaderStreak
 no_stretch = record { seen = None; count = 0 }
 
--- a stretch and a configuration more, which shows this
-abbrev pub stretched : (beat : ℕ) → Stretch → Option Seen → Stretch
+-- a stretch and one more configuration, which shows this
+abbrev pub stretched : (beat : ℕ) → LeaderStreak → Option Observation → LeaderStreak
 stretched beat stretch None = no_stretch
 stretched beat stretch (Some now) = record {
   seen = Some now;
@@ -37,8 +37,8 @@ first_below test zero = None
 first_below test (suc n) = first_or (first_below test n) (if test n then Some n else None)
 
 -- the stretch of configurations from `from` on that ends before configuration c
-module _ (beat from : ℕ) (seen_at : ℕ → Option Seen) where
-  abbrev pub stretch_before : (c : ℕ) → Stretch
+module _ (beat from : ℕ) (seen_at : ℕ → Option Observation) where
+  abbrev pub stretch_before : (c : ℕ) → LeaderStreak
   stretch_before zero = no_stretch
   stretch_before (suc c) =
       if nat_le from c then stretched beat (stretch_before c) (seen_at c) else stretch_before c
@@ -61,14 +61,14 @@ module _ (beat : ℕ) (faulty : ℕ → Bool) (last : ℕ) where
   explained_in t b start = option_map (explained_by t b start)
       (first_below (begins_phase t start) (beat - 2))
 
-  -- that of the window which ends with configuration c, where a stretch ends there
-  abbrev pub explained_from : (c count : ℕ) → Option Seen → Option Explanation
+  -- that of the window which ends with configuration c, if a stretch ends there
+  abbrev pub explained_from : (c count : ℕ) → Option Observation → Option Explanation
   explained_from c count None = None
   explained_from c count (Some seen) =
       if nat_le beat count
       then explained_in (c + 1 - beat) seen.leader ((seen.part + 1) % beat) else None
 
-  module _ (from : ℕ) (seen_at : ℕ → Option Seen) where
+  module _ (from : ℕ) (seen_at : ℕ → Option Observation) where
     -- the explanation of the window that ends with configuration c
     abbrev pub explained_at : (c : ℕ) → Option Explanation
     explained_at c =

@@ -6,10 +6,10 @@ use Rattle.construction.specs.Pointers.{pointer_of, part_of}
 use Rattle.plan_laws.specs.Level.{faults_in}
 use Rattle.run_explanations.specs.declared.seeing.Shared.{Shared}
 use Rattle.run_explanations.specs.declared.seeing.Shared.TheVariants.{Nothing, One, Several}
-use Rattle.run_explanations.specs.declared.seeing.Seen.{Seen}
+use Rattle.run_explanations.specs.declared.seeing.Observation.{Observation}
 use Rattle.run_explanations.specs.declared.tops.Top.{Top}
 
--- what numbers have in common, with a number more
+-- what numbers have in common, with one more number
 abbrev pub joined : Shared → ℕ → Shared
 joined Nothing number = One number
 joined (One known) number = if known == number then One known else Several
@@ -50,19 +50,19 @@ module _ (top : Top) (faulty : ℕ → Bool) (outputs : ℕ → ℕ) where
   abbrev pub parted : (b : ℕ) → Shared
   parted b = shared_by Nothing (is_correct top faulty b) (part_at top outputs b) top.nodes
 
-  -- the leader and the part, where the parts are one
-  abbrev pub seen_parts : (b : ℕ) → Shared → Option Seen
+  -- the leader and the part, if the parts are one
+  abbrev pub seen_parts : (b : ℕ) → Shared → Option Observation
   seen_parts b (One part) = Some (record { leader = b; part = part })
   seen_parts b Nothing = None
   seen_parts b Several = None
 
-  -- the same, where the pointers are one and the leader's block is sound
-  abbrev pub seen_leader : Shared → Option Seen
+  -- the same, if the pointers are one and the leader's block is sound
+  abbrev pub seen_leader : Shared → Option Observation
   seen_leader (One b) = if is_sound top faulty b then seen_parts b (parted b) else None
   seen_leader Nothing = None
   seen_leader Several = None
 
-  abbrev pub seen_in : Option Seen
+  abbrev pub seen_in : Option Observation
   seen_in = seen_leader (pointed top.blocks)
 
   -- that this leader and this part are seen

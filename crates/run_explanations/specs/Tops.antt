@@ -22,7 +22,7 @@ top_in (level ∷ below) = top_over level below
 abbrev pub top_of : Plan → Top
 top_of plan = top_in plan.levels
 
--- what holds of these numbers where there is a level
+-- what holds of these numbers if there is a level
 pub record IsTop (top : Top) : Type 0 where
   pub blocks : top.blocks ≤ 16
   pub leaders : 2 ≤ top.leaders

@@ -12,8 +12,8 @@ ghost use Rattle.run_explanations.specs.Playing.{HasTested, taken};
 
 use crate::explanations::Explanation;
 use crate::laws::found_is_first;
-use crate::searching::{Stretch, Window, begins_phase, explained_from, next_part, stretched};
-use crate::seeing::Sight;
+use crate::searching::{LeaderStreak, Window, begins_phase, explained_from, next_part, stretched};
+use crate::seeing::TopLevelView;
 use crate::tops::{TopLevel, top_of};
 use adversary_script::Script;
 use counter_core::NoOverlay;
@@ -27,7 +27,7 @@ use sync_types::FaultSet;
 #[derive(Clone, Copy, Debug)]
 pub(crate) struct Search {
     /// The stretch.
-    pub stretch: Stretch,
+    pub stretch: LeaderStreak,
     /// The first explanation.
     pub found: Option<Explanation>,
 }
@@ -49,7 +49,7 @@ fn last_begin(script: &Script) -> u64
 }
 
 /// The stretch that ends with the runner's configuration, after this one, which ends before it.
-fn next_stretch(stretch: Stretch, top: TopLevel, runner: &Runner<NoOverlay>) -> Stretch
+fn next_stretch(stretch: LeaderStreak, top: TopLevel, runner: &Runner<NoOverlay>) -> LeaderStreak
     requires read { IsRead top.numbers runner.now }
     requires few { stretch.count ≤ runner.now.at }
     ensures { result ≡ stretched top.numbers.beat stretch
@@ -59,7 +59,7 @@ fn next_stretch(stretch: Stretch, top: TopLevel, runner: &Runner<NoOverlay>) -> 
     let script = runner.script();
     let _rounds = script.rounds();
     let faulty = last_faulty(script);
-    let sight = Sight {
+    let sight = TopLevelView {
         top,
         faulty,
         runner,
@@ -90,10 +90,10 @@ fn take(search: Search, top: TopLevel, runner: &Runner<NoOverlay>) -> Search
 }
 
 /// A stretch of no configuration.
-fn no_stretch() -> Stretch
+fn no_stretch() -> LeaderStreak
     ensures { result ≡ no_stretch }
 {
-    Stretch {
+    LeaderStreak {
         seen: None,
         count: 0,
     }
@@ -111,7 +111,7 @@ fn begun() -> Search
 
 /// Goes on to the end of the window that begins with configuration `window`, and answers the
 /// stretch that ends there, of the configurations from that one on.
-fn look_over(top: TopLevel, window: u64, runner: &mut Runner<NoOverlay>) -> Stretch
+fn look_over(top: TopLevel, window: u64, runner: &mut Runner<NoOverlay>) -> LeaderStreak
     requires start { IsToRead top.numbers runner.old }
     requires end { window + top.numbers.beat ≤ runner.old.script.rounds + 1 }
     ensures stretch { result ≡ stretch_before top.numbers.beat window
@@ -156,7 +156,7 @@ fn first_found(top: TopLevel, runner: &mut Runner<NoOverlay>) -> Option<Explanat
 }
 
 /// Plays a script, and answers the first explanation why its last era locks: that of the first
-/// window that has one, and of the first phase in it. None comes exactly where there is none. It
+/// window that has one, and of the first phase in it. None comes exactly if there is none. It
 /// [skips](Runner::skip_to) to the last era, and plays that until there is an explanation and the
 /// first locked configuration of each era is known. It takes no memory.
 ///
@@ -170,7 +170,7 @@ pub fn explain(plan: &Plan, runner: &mut Runner<NoOverlay>) -> Option<Explanatio
     ensures knows { KnowsLocks runner.new }
 {
     found_is_first();
-    plan.tell();
+    plan.facts();
     first_found(top_of(plan), runner)
 }
 
@@ -186,7 +186,7 @@ fn fits(top: TopLevel, from: u64, rounds: u64, explanation: Explanation) -> bool
 }
 
 /// Whether an explanation is that of the window which ends with a stretch.
-fn is_of(top: TopLevel, script: &Script, stretch: Stretch, explanation: Explanation) -> bool
+fn is_of(top: TopLevel, script: &Script, stretch: LeaderStreak, explanation: Explanation) -> bool
     requires { Fits top.numbers.beat 0 script.now.rounds explanation }
     ensures { result ≡ is_of top.numbers.beat (is_faulty script.now) script.now.rounds stretch
         explanation }
@@ -207,10 +207,10 @@ fn is_of(top: TopLevel, script: &Script, stretch: Stretch, explanation: Explanat
         && (window.part + x) % top.numbers.beat / 3 == u64::from(explanation.king)
 }
 
-/// Goes on to the end of a window, and answers whether an explanation holds: exactly where it
-/// explains that the last era locks. Its numbers may be any; where its window and phase do not fit
-/// into the last era, nothing is played. Up to the window it [skips](Runner::skip_to) what it can.
-/// It takes no memory.
+/// Goes on to the end of a window, and answers whether an explanation holds: exactly if it explains
+/// that the last era locks. Its numbers may be any; if its window and phase do not fit into the
+/// last era, nothing is played. Up to the window it [skips](Runner::skip_to) what it can. It takes
+/// no memory.
 ///
 /// The plan has a level, and the runner is one of this plan, at configuration 0.
 pub fn check_explanation(
@@ -223,7 +223,7 @@ pub fn check_explanation(
     ensures exact { (result ≡ true) ↔ IsExplanation plan.now runner.old.script explanation.now }
     ensures played { HasTested plan.now explanation.now runner.old runner.new }
 {
-    plan.tell();
+    plan.facts();
     let script = runner.script();
     let from = last_begin(script);
     let rounds = script.rounds();

@@ -12,15 +12,15 @@ pub fn explained_eras_lock()
     explained_runs_lock();
 }
 
-/// Where the last era goes on to the plan's bound, it has an explanation whose window ends within
-/// the bound.
+/// If the last era goes on to the plan's bound, it has an explanation whose window ends within the
+/// bound.
 pub fn long_eras_are_explained()
     ensures { LongErasAreExplained }
 {
     bound_is_explained();
 }
 
-/// The explanation that is found is the first one, and none is found exactly where there is none.
+/// The explanation that is found is the first one, and none is found exactly if there is none.
 pub fn found_is_first()
     ensures { FoundIsFirst }
 {}

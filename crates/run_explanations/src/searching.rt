@@ -4,15 +4,15 @@ ghost use Rattle.run_explanations.specs.Searching.{goes_on, stretched, begins_ph
 ghost use Rattle.run_explanations.specs.Searching.{explained_in, explained_from};
 
 use crate::explanations::Explanation;
-use crate::seeing::Seen;
+use crate::seeing::Observation;
 use crate::tops::TopLevel;
 use sync_types::FaultSet;
 
 /// For how many configurations one leader has been seen, with a part that grows by one.
 #[derive(Clone, Copy, Debug)]
-pub(crate) struct Stretch {
+pub(crate) struct LeaderStreak {
     /// What the last one shows.
-    pub seen: Option<Seen>,
+    pub seen: Option<Observation>,
     /// How many there are.
     pub count: u64,
 }
@@ -40,7 +40,7 @@ pub(crate) fn next_part(top: TopLevel, part: u64) -> u64
 }
 
 /// Whether what is seen goes on: the same leader, and a part that is one more.
-fn goes_on(top: TopLevel, before: Option<Seen>, now: Seen) -> bool
+fn goes_on(top: TopLevel, before: Option<Observation>, now: Observation) -> bool
     ensures { result ≡ goes_on top.numbers.beat before now }
 {
     match before {
@@ -49,13 +49,17 @@ fn goes_on(top: TopLevel, before: Option<Seen>, now: Seen) -> bool
     }
 }
 
-/// A stretch and a configuration more, which shows this.
-pub(crate) fn stretched(top: TopLevel, stretch: Stretch, seen: Option<Seen>) -> Stretch
+/// A stretch and one more configuration, which shows this.
+pub(crate) fn stretched(
+    top: TopLevel,
+    stretch: LeaderStreak,
+    seen: Option<Observation>,
+) -> LeaderStreak
     requires { stretch.count ≤ 1000001 }
     ensures { result ≡ stretched top.numbers.beat stretch seen }
 {
     let Some(now) = seen else {
-        return Stretch {
+        return LeaderStreak {
             seen: None,
             count: 0,
         };
@@ -65,7 +69,7 @@ pub(crate) fn stretched(top: TopLevel, stretch: Stretch, seen: Option<Seen>) -> 
     } else {
         1
     };
-    Stretch { seen, count }
+    LeaderStreak { seen, count }
 }
 
 /// Whether the phase of a correct king begins `x` configurations after the first one of a window,
@@ -109,13 +113,13 @@ fn explained_in(top: TopLevel, faulty: &FaultSet, last: u64, window: Window) -> 
     }
 }
 
-/// The explanation of the window that ends with configuration `c`, where this stretch ends there.
+/// The explanation of the window that ends with configuration `c`, if this stretch ends there.
 pub(crate) fn explained_from(
     top: TopLevel,
     faulty: &FaultSet,
     last: u64,
     c: u64,
-    stretch: Stretch,
+    stretch: LeaderStreak,
 ) -> Option<Explanation>
     requires early { c ≤ 1000000 }
     requires within { stretch.count ≤ c + 1 }

@@ -22,7 +22,7 @@ pub(crate) enum Shared {
 /// What a configuration shows: a leader to which all correct nodes of sound blocks point, and the
 /// part at which the correct nodes of its block are.
 #[derive(Clone, Copy, Debug, PartialEq, Eq)]
-pub(crate) struct Seen {
+pub(crate) struct Observation {
     /// The leader.
     pub leader: u32,
     /// The part of the beat.
@@ -32,7 +32,7 @@ pub(crate) struct Seen {
 /// The runner's configuration, as it is read by the numbers of the plan's top level, with these
 /// faulty nodes.
 #[derive(Clone, Copy)]
-pub(crate) struct Sight<'a> {
+pub(crate) struct TopLevelView<'a> {
     /// The top level.
     pub top: TopLevel,
     /// The faulty nodes.
@@ -42,7 +42,7 @@ pub(crate) struct Sight<'a> {
     ghost reads: { Reads top.numbers runner.now },
 }
 
-/// What numbers have in common, with a number more.
+/// What numbers have in common, with one more number.
 fn joined(shared: Shared, number: u64) -> Shared
     ensures { result ≡ joined shared number }
 {
@@ -53,7 +53,7 @@ fn joined(shared: Shared, number: u64) -> Shared
     }
 }
 
-impl<'a> Sight<'a> {
+impl<'a> TopLevelView<'a> {
     ghost use Rattle.std.specs.Prelude.{◌≡◌, ◌-◌, ◌<◌, ◌≤◌, nat_le};
     ghost use Rattle.construction.specs.Plans.{plan_depth};
     ghost use Rattle.construction.specs.Runs.{is_in};
@@ -62,7 +62,7 @@ impl<'a> Sight<'a> {
     ghost use Rattle.run_explanations.specs.Seeing.{shared_by, is_sound, is_correct, pointer_at};
     ghost use Rattle.run_explanations.specs.Seeing.{part_at, pointed, parted, seen_in};
 
-    /// Whether no more nodes of block `i` are faulty than it bears.
+    /// Whether no more nodes of block `i` are faulty than it tolerates.
     fn is_sound(&self, i: u32) -> bool
         requires { i < self.now.top.numbers.blocks }
         ensures { result ≡ is_sound self.now.top.numbers (is_in self.now.faulty.now.ids) i }
@@ -130,7 +130,7 @@ impl<'a> Sight<'a> {
     }
 
     /// What it shows.
-    pub(crate) fn see(&self) -> Option<Seen>
+    pub(crate) fn see(&self) -> Option<Observation>
         ensures { result ≡ seen_in self.now.top.numbers (is_in self.now.faulty.now.ids)
             (outputs_in (plan_depth self.now.runner.now.plan - 1) self.now.runner.now.states) }
     {
@@ -142,7 +142,7 @@ impl<'a> Sight<'a> {
             return None;
         }
         match self.parted(leader) {
-            Shared::One(part) => Some(Seen { leader, part }),
+            Shared::One(part) => Some(Observation { leader, part }),
             _ => None,
         }
     }

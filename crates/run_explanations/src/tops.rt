@@ -15,7 +15,7 @@ pub(crate) struct Top {
     pub beat: u64,
     /// How many nodes a block has.
     pub nodes: u32,
-    /// How many of them a block bears as faulty.
+    /// How many faulty nodes a block tolerates.
     pub faults: u32,
 }
 
@@ -27,7 +27,7 @@ pub(crate) struct TopLevel {
     ghost small: { IsTop numbers },
 }
 
-/// How many faulty nodes a block of the top level bears, 0 where there is no level.
+/// How many faulty nodes a block of the top level tolerates, 0 if there is no level.
 fn block_faults(plan: &Plan) -> u32
     ensures { result ≡ (top_of plan.now).faults }
 {
@@ -43,7 +43,7 @@ pub(crate) fn top_of(plan: &Plan) -> TopLevel
     requires { 1 ≤ plan_depth plan.now }
     ensures { result.numbers ≡ top_of plan.now }
 {
-    plan.tell();
+    plan.facts();
     let nums = plan.level(plan.depth() - 1);
     TopLevel {
         numbers: Top {

@@ -12,13 +12,13 @@ use Rattle.counter_core.specs.NoLayers.{no_layer}
 use Rattle.adversary_script.specs.Scripts.{Script, IsScript}
 use Rattle.adversary_script.specs.Eras.{era_of, end_of_era, faulty_of_era, faulty_at}
 use Rattle.round_runner.specs.Known.{CountsOn}
-use Rattle.round_runner.proofs.Firsts.{in_era, era_from, era_within}
+use Rattle.machine_runner.proofs.Firsts.{in_era, era_from, era_within}
 use Rattle.run_lines.specs.RunTexts.{word_or_star, words_of_nodes}
 use Rattle.run_lines.specs.PlayedTexts.{line_of, scene_in, configuration_in, lines_between}
 use Rattle.run_lines.specs.OutputTexts.{word_of_shown, output_wording, counted_line}
 use Rattle.run_lines.proofs.Ranges.{same_texts, rest_in_place}
 
--- a word or a star, where the words are one
+-- a word or a star, if the words are one
 either : (b : Bool) (star x y : List ℕ) → (b ≡ false → x ≡ y) → cond b star x ≡ cond b star y
 either true star x y same = refl
 either false star x y same = same refl
@@ -40,7 +40,7 @@ abbrev pub AreOfItsEra : Script → (at end : ℕ) → Type 0
 AreOfItsEra script at end = (t : ℕ) → at ≤ t → t < end
     → (t < end_of_era script (era_of script at)) × (faulty_at script t ≡ faulty_at script at)
 
--- so it is where the end is not behind that of the era
+-- so it is if the end is not after that of the era
 pub left_of_era : (script : Script) → IsScript script → (at end : ℕ)
     → end ≤ end_of_era script (era_of script at) → AreOfItsEra script at end
 left_of_era script whole at end within = λ t lo hi.

@@ -18,7 +18,7 @@ use Rattle.state_codec.specs.Shapes.{IsShape}
 use Rattle.adversary_script.specs.Scripts.{Script, Era, IsScript, faulty_sets}
 use Rattle.adversary_script.specs.Eras.{first_of_era, end_of_era, faulty_of_era}
 use Rattle.round_runner.specs.Runners.{IsFor}
-use Rattle.round_runner.proofs.Firsts.{era_some}
+use Rattle.machine_runner.proofs.Firsts.{era_some}
 use Rattle.round_runner.proofs.ScenesRun.{states_at, cut_run, cut_length, cut_configuration}
 use Rattle.round_runner.proofs.ScenesRun.{scenes_run}
 use Rattle.layer_lines.specs.Counting.{EraCounts, ErasCount}

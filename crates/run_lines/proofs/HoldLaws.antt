@@ -1,5 +1,4 @@
--- A word in a line of a slot table is 1 exactly where its node holds, and at most one correct word
--- is.
+-- A word in a line of a slot table is 1 exactly if its node holds, and at most one correct word is.
 use Rattle.std.proofs.Common.{◌≡◌, ℕ, subst}
 use Rattle.std.specs.Prelude.{codes}
 use Rattle.construction.specs.Plans.{plan_depth}
@@ -7,7 +6,7 @@ use Rattle.construction.specs.Shown.{shown}
 use Rattle.construction.specs.Steps.{state_of}
 use Rattle.adversary_script.specs.Eras.{era_of}
 use Rattle.plan_laws.proofs.RunLaws.{every_plan_settles}
-use Rattle.round_runner.proofs.Firsts.{of_one_era}
+use Rattle.machine_runner.proofs.Firsts.{of_one_era}
 use Rattle.round_runner.proofs.EraRuns.{eras_count}
 use Rattle.slot_table.specs.HoldWords.{hold_word_at, WordsAreExact}
 use Rattle.slot_table.proofs.HoldWords.{one_holds}

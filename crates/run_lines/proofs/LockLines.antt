@@ -7,8 +7,7 @@ use Rattle.adversary_script.specs.Scripts.{IsScript}
 use Rattle.round_runner.specs.Known.{KnowsLocks}
 use Rattle.round_runner.specs.Locks.{first_locked, era_locked}
 use Rattle.round_runner.specs.Runners.{Running, IsPlaying, configuration_of}
-pub use Rattle.run_texts.proofs.LockLines.{puts_last}
-use Rattle.run_texts.specs.RunTexts as texts
+use Rattle.machine_runner.specs.RunTexts as texts
 use Rattle.layer_lines.proofs.LockLines.{same_locks}
 use Rattle.run_lines.specs.RunTexts.{lock_of_era, lock_lines}
 use Rattle.round_runner.proofs.LocksKnown.{known_at_end}

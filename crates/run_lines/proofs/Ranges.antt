@@ -9,7 +9,6 @@ use Rattle.std.proofs.lemmas.List.{take-append-drop}
 use Rattle.std.proofs.lemmas.List.Concat.{flat_map-append, flat_map-cons}
 use Rattle.layer_lines.proofs.Shown.{row_if_shown}
 pub use Rattle.layer_lines.proofs.SameTexts.{same_texts}
-use Rattle.run_texts.proofs.WordsSoFar.{words_before}
 
 -- numbers but for the first ones
 drop_range : (k n a : ℕ) → drop k (range_with_len a n) ≡ range_with_len (a + k) (n - k)
@@ -22,16 +21,6 @@ drop_range (suc k) (suc n) a =
     let left : n - k ≡ suc n - suc k = omega arith in
     drop_range k n (a + 1) ∙ ap₂ range_with_len there left
 
--- the texts of the numbers before c, and those behind
-pub texts_split : (f : ℕ → List ℕ) (n c : ℕ) → flat_map f (range_with_len 0 n)
-    ≡ words_before f n c ++ flat_map f (range_with_len c (n - c))
-texts_split f n c =
-    let from : 0 + c ≡ c = omega arith in
-    ap (flat_map f) (sym (take-append-drop c (range_with_len 0 n)))
-    ∙ (flat_map-append f (take c (range_with_len 0 n)) (drop c (range_with_len 0 n))
-    ∙ ap (λ (xs : List ℕ). words_before f n c ++ flat_map f xs)
-    (drop_range c n 0 ∙ ap (λ (a : ℕ). range_with_len a (n - c)) from))
-
 -- the first ones of numbers
 take_range : (k n a : ℕ) → k ≤ n → take k (range_with_len a n) ≡ range_with_len a k
 take_range zero n a le = refl
@@ -40,12 +29,15 @@ take_range (suc k) (suc n) a le =
     ap (λ (xs : List ℕ). a ∷ xs) (take_range k n (a + 1) (omega arith))
 
 -- the texts of the numbers before c, and those from c on to before d
-pub texts_on : (f : ℕ → List ℕ) (n c d : ℕ) → c ≤ d → d ≤ n
-    → words_before f n c ++ flat_map f (range_with_len c (d - c)) ≡ words_before f n d
-texts_on f n c d le within =
-    ap (λ (xs : List ℕ). flat_map f xs ++ flat_map f (range_with_len c (d - c)))
-    (take_range c n 0 (omega arith) ∙ sym (take_range c d 0 le))
-    ∙ (sym (texts_split f d c) ∙ ap (flat_map f) (sym (take_range d n 0 within)))
+pub texts_on : (f : ℕ → List ℕ) (c d : ℕ) → c ≤ d
+    → flat_map f (range_with_len 0 c) ++ flat_map f (range_with_len c (d - c))
+    ≡ flat_map f (range_with_len 0 d)
+texts_on f c d le =
+    let from : 0 + c ≡ c = omega arith in
+    ap₂ (λ (xs ys : List ℕ). flat_map f xs ++ flat_map f ys) (sym (take_range c d 0 le))
+    (sym (drop_range c d 0 ∙ ap (λ (a : ℕ). range_with_len a (d - c)) from))
+    ∙ (sym (flat_map-append f (take c (range_with_len 0 d)) (drop c (range_with_len 0 d)))
+    ∙ ap (flat_map f) (take-append-drop c (range_with_len 0 d)))
 
 module _ (row : ℕ → List ℕ) (first last : ℕ) where
   abbrev if_shown : ℕ → List ℕ

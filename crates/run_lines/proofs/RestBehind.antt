@@ -9,8 +9,10 @@ use Rattle.std.proofs.lemmas.Bool.{true≢false, cases_eq, le-ltb}
 use Rattle.std.proofs.lemmas.List.Concat.{flat_map-cons}
 use Rattle.sync_types.specs.FaultSets.{FaultIds}
 use Rattle.edge_io.specs.Rising.{Labelled}
-use Rattle.texts.specs.Growth.{Told, Wrote, Cut, Puts}
-use Rattle.texts.proofs.Growth.{puts_then, wrote_then, cut_then, cut_more}
+use Rattle.texts.specs.Growth.{SinkState}
+use Rattle.edge_io.specs.Writing.{Writes}
+use Rattle.edge_io.specs.declared.writer.Writer.{Writer}
+use Rattle.edge_io.proofs.Writing.{writes_then, writes_more, writes_is}
 use Rattle.construction.specs.Plans.{Plan, plan_nodes, plan_modulus}
 use Rattle.counter_core.specs.declared.overlays.NoOverlay.{NoOverlay}
 use Rattle.counter_core.specs.NoLayers.{no_layer}
@@ -19,21 +21,21 @@ use Rattle.adversary_script.specs.Eras.{era_of, first_of_era, end_of_era, faulty
 use Rattle.round_runner.specs.Known.{CountsOn, KnowsLocks}
 use Rattle.round_runner.specs.Runners.{Running, IsPlaying, scene_of, configuration_of}
 use Rattle.round_runner.specs.Skipping.{IsSkipped}
-use Rattle.round_runner.proofs.Firsts.{era_before}
+use Rattle.machine_runner.proofs.Firsts.{era_before}
 use Rattle.run_lines.specs.PlayedTexts.{Wording, line_if_shown, line_in, lines_text, lines_between}
 use Rattle.run_lines.specs.OutputTexts.{output_wording, counted_line}
 use Rattle.run_lines.proofs.CountedLines.{left_of_era, counted_rest}
 use Rattle.run_lines.proofs.Played.{LinesSoFar}
-use Rattle.run_lines.proofs.Ranges.{texts_split, texts_on}
-use Rattle.run_texts.proofs.WordsSoFar.{words_before}
+use Rattle.run_lines.proofs.Ranges.{texts_on}
 
 abbrev Plays : (began : List (Unit {0})) → Running NoOverlay → Type 0
 Plays began r = IsPlaying (λ o. no_layer) (λ o. []) began r
 
-module _ (wording : Wording (Unit {0})) (start r : Running NoOverlay) (old mid : Told)
-    (so_far : LinesSoFar (λ o. no_layer) (λ o. []) wording start r.at r old mid)
+module _ {K : Type 0} (told : K → SinkState) (wording : Wording (Unit {0}))
+    (start r : Running NoOverlay) (old mid : Writer K)
+    (so_far : LinesSoFar (λ o. no_layer) (λ o. []) wording start told r.at r old mid)
     (within : r.at ≤ start.script.rounds) where
-  -- where locks are not known, a round is left
+  -- if locks are not known, a round is left
   pub round_left : (knows : Bool) → ((knows ≡ true) ↔ KnowsLocks r) → knows ≡ false
       → r.at < r.script.rounds
   round_left knows exact not =
@@ -50,61 +52,50 @@ module _ (wording : Wording (Unit {0})) (start r : Running NoOverlay) (old mid :
       lines_between plan script no_layer [] wording r.at end) so_far.played.plan
       so_far.played.script
 
-  -- what stands behind the lines that are written
-  pub rest_behind : {T E : Type 0} (result : Result T E) (now : Told) (end : ℕ)
-      → end ≡ start.script.rounds + 1
-      → Puts result (lines_between r.plan r.script no_layer [] wording r.at end) mid now
-      → Puts result (lines_text start.plan start.script no_layer [] wording) old now
-  rest_behind result now end is puts =
-      let line : ℕ → List ℕ = line_in start.plan start.script no_layer [] wording in
-      subst (λ (x : List ℕ). Puts result x old now)
-      (sym (texts_split line (start.script.rounds + 1) r.at
-      ∙ ap (λ n. words_before line (start.script.rounds + 1) r.at ++ flat_map line
-      (range_with_len r.at (n - r.at))) (sym is)))
-      (puts_then result old mid now _ _ so_far.wrote
-      (subst (λ (x : List ℕ). Puts result x mid now) (same_lines end) puts))
+  abbrev line : ℕ → List ℕ
+  line = line_in start.plan start.script no_layer [] wording
 
-  module _ (to : ℕ) (from : r.at < to) (last : to ≤ start.script.rounds) (now : Told) where
-    -- the lines before that configuration, from those before this one
-    lines_to : words_before (line_in start.plan start.script no_layer [] wording)
-        (start.script.rounds + 1) r.at
-        ++ lines_between r.plan r.script no_layer [] wording r.at to
-        ≡ words_before (line_in start.plan start.script no_layer [] wording)
-        (start.script.rounds + 1) to
-    lines_to =
-        let line : ℕ → List ℕ = line_in start.plan start.script no_layer [] wording in
-        ap (λ (x : List ℕ). words_before line (start.script.rounds + 1) r.at ++ x) (same_lines to)
-        ∙ texts_on line (start.script.rounds + 1) r.at to (omega (arith, from))
-        (omega (arith, last))
+  -- the lines before that configuration, from those before this one
+  lines_to : (to : ℕ) → r.at ≤ to
+      → flat_map line (range_with_len 0 r.at)
+      ++ lines_between r.plan r.script no_layer [] wording r.at to
+      ≡ flat_map line (range_with_len 0 to)
+  lines_to to from =
+      ap (λ (x : List ℕ). flat_map line (range_with_len 0 r.at) ++ x) (same_lines to)
+      ∙ texts_on line r.at to from
 
-    -- they are written, and the runner goes on to it
-    pub lines_on : (new : Running NoOverlay)
-        → Wrote (lines_between r.plan r.script no_layer [] wording r.at to) mid now
-        → IsSkipped r to new → (Plays [] r → Plays [] new)
-        → LinesSoFar (λ o. no_layer) (λ o. []) wording start to new old now
-    lines_on new wrote skipped plays =
-        let p = so_far.played in
-        record {
-          played = record {
-            plan = skipped.plan ∙ p.plan;
-            script = skipped.script ∙ p.script;
-            layer = refl;
-            at = skipped.at;
-            plays = plays p.plays;
-          };
-          wrote = subst (λ (x : List ℕ). Wrote x old now) lines_to
-              (wrote_then old mid now _ _ so_far.wrote wrote);
-        }
+  -- what stands after the lines that are written
+  pub rest_behind : (now : Writer K) (end : ℕ) → end ≡ start.script.rounds + 1
+      → Writes told (lines_between r.plan r.script no_layer [] wording r.at end) mid now
+      → Writes told (lines_text start.plan start.script no_layer [] wording) old now
+  rest_behind now end is rest =
+      writes_is (lines_to end (omega (arith, is, within))
+      ∙ ap (λ (n : ℕ). flat_map line (range_with_len 0 n)) is) (writes_then so_far.wrote rest)
 
-    -- they are cut
-    pub lines_short : Cut (lines_between r.plan r.script no_layer [] wording r.at to) mid now
-        → Cut (lines_text start.plan start.script no_layer [] wording) old now
-    lines_short cut =
-        let line : ℕ → List ℕ = line_in start.plan start.script no_layer [] wording in
-        subst (λ (x : List ℕ). Cut x old now)
-        (sym (texts_split line (start.script.rounds + 1) to))
-        (cut_more old now _ _ (subst (λ (x : List ℕ). Cut x old now) lines_to
-        (cut_then old mid now _ _ so_far.wrote cut)))
+  -- if a write failed, it is as if all were written
+  pub lines_stop : mid.failed ≡ true
+      → Writes told (lines_text start.plan start.script no_layer [] wording) old mid
+  lines_stop failed =
+      writes_is (texts_on line r.at (start.script.rounds + 1) (omega (arith, within)))
+      (writes_more _ failed so_far.wrote)
+
+  -- they are written to before that configuration, and the runner goes on to it
+  pub lines_on : (to : ℕ) → r.at < to → (now : Writer K) (new : Running NoOverlay)
+      → Writes told (lines_between r.plan r.script no_layer [] wording r.at to) mid now
+      → IsSkipped r to new → (Plays [] r → Plays [] new)
+      → LinesSoFar (λ o. no_layer) (λ o. []) wording start told to new old now
+  lines_on to from now new wrote skipped plays =
+      let p = so_far.played in
+      record {
+        played = record {
+          plan = skipped.plan ∙ p.plan;
+          script = skipped.script ∙ p.script;
+          layer = refl;
+          at = skipped.at;
+          plays = plays p.plays;
+        };
+        wrote = writes_is (lines_to to (omega (arith, from))) (writes_then so_far.wrote wrote);
+      }
 
 module _ (wording : Wording (Unit {0})) (r : Running NoOverlay) (began : List (Unit {0}))
     (plays : Plays began r) where
@@ -149,8 +140,8 @@ module _ (wording : Wording (Unit {0})) (r : Running NoOverlay) (began : List (U
       ∙ ap (λ (w : Wording (Unit {0})). lines_between r.plan r.script no_layer began w r.at end)
       (sym law)))
 
--- where the locks are known, the era goes on to the end, and its own line is the last one where it
--- has no lock
+-- if the locks are known, the era goes on to the end, and its own line is the last one if it has no
+-- lock
 module _ {O : Type 0} (r : Running O) (whole : IsScript r.script) (knows : KnowsLocks r) where
   pub era_to_end : r.script.rounds + 1 ≤ end_of_era r.script (era_of r.script r.at)
   era_to_end = elim knows [
@@ -177,8 +168,3 @@ pub counted_set : (nodes n : ℕ) (ids faulty : List ℕ) → nodes ≡ n → id
 counted_set nodes n ids faulty same is =
     ap₂ (λ (n : ℕ) (ids : List ℕ). let set : FaultIds = record { nodes = n; ids = ids } in set)
     same is
-
--- a text that is another one
-pub puts_as : {T E : Type 0} (result : Result T E) (a b : List ℕ) (s t : Told) → a ≡ b
-    → Puts result a s t → Puts result b s t
-puts_as result a b s t is puts = subst (λ (x : List ℕ). Puts result x s t) is puts

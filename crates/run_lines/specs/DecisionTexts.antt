@@ -15,11 +15,11 @@ module _ (plan : Plan) (script : Script) (said : AgreeSaid) where
   abbrev pub slot_of : ℕ
   slot_of = slot_length (plan_faults plan)
 
-  -- scene c of what is played, where each decision is 0 at first
+  -- scene c of what is played, if each decision is 0 at first
   abbrev pub agree_scene : (c : ℕ) → Scene ℕ
   agree_scene c = any.agree_scene (plan_meaning plan) script said c
 
-  -- the line of a slot that begins in configuration t: the decisions where it ends
+  -- the line of a slot that begins in configuration t: the decisions when it ends
   abbrev pub decision_line : (t : ℕ) → List ℕ
   decision_line t = any.decision_line (plan_meaning plan) script said t
 

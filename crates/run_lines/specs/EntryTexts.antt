@@ -1,5 +1,5 @@
 -- What the word `log` writes: of each slot that counts and begins in a configuration that is shown,
--- its owner, and the newest values in the logs where it ends. It is what is written on any counter,
+-- its owner, and the newest values in the logs when it ends. It is what is written on any counter,
 -- at that of the plan.
 use Rattle.std.specs.Prelude.{ℕ, List}
 use Rattle.construction.specs.Plans.{Plan}
@@ -14,7 +14,7 @@ pub use Rattle.layer_lines.specs.EntryTexts.{newest_value, entry_word, entry_fro
 pub use Rattle.layer_lines.specs.EntryTexts.{entry_wording}
 
 module _ (plan : Plan) (script : Script) (said : LogSaid) where
-  -- scene c of what is played, where all logs are empty at first
+  -- scene c of what is played, if all logs are empty at first
   abbrev pub log_scene : (c : ℕ) → Scene (List Entry)
   log_scene c = any.log_scene (plan_meaning plan) script said c
 
@@ -26,7 +26,7 @@ module _ (plan : Plan) (script : Script) (said : LogSaid) where
   abbrev pub slot_owner : (t : ℕ) → ℕ
   slot_owner t = any.slot_owner (plan_meaning plan) script said t
 
-  -- the line of that slot: its owner, and the newest values where it ends
+  -- the line of that slot: its owner, and the newest values when it ends
   abbrev pub entry_line : (t : ℕ) → List ℕ
   entry_line t = any.entry_line (plan_meaning plan) script said t
 

@@ -12,11 +12,11 @@ use Rattle.layer_lines.specs.FireTexts as any
 pub use Rattle.layer_lines.specs.FireTexts.{fired_word, fire_word, fire_front, fire_wording}
 
 module _ (plan : Plan) (script : Script) (requests : List Request) where
-  -- scene c of what is played, where none fires at first
+  -- scene c of what is played, if none fires at first
   abbrev pub fire_scene : (c : ℕ) → Scene Fire
   fire_scene c = any.fire_scene (plan_meaning plan) script requests c
 
-  -- the line of a slot that begins in configuration t: who fires where it ends
+  -- the line of a slot that begins in configuration t: who fires when it ends
   abbrev pub fire_line : (t : ℕ) → List ℕ
   fire_line t = any.fire_line (plan_meaning plan) script requests t
 

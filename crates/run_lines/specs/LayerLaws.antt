@@ -65,8 +65,8 @@ AtMostOneInALine = (plan : Plan) (script : Script) → IsReadFor plan script
     → hold_word plan lines (played_at plan script t) u ≡ codes " 1"
     → hold_word plan lines (played_at plan script t) v ≡ codes " 1" → u ≡ v
 
--- The word of node v is 1 exactly where some line of the table gives v the output that it shows,
--- and else a dot.
+-- The word of node v is 1 exactly if some line of the table gives v the output that it shows, and
+-- else a dot.
 pub record HoldWordIs (plan : Plan) (lines : List SlotLine) (config : List State) (v : ℕ)
     : Type 0 where
   pub one : (hold_word plan lines config v ≡ codes " 1")

@@ -1,4 +1,4 @@
--- Lines of the configurations that are shown, whose words hang on what their nodes show.
+-- Lines of the configurations that are shown, whose words depend on what their nodes show.
 use Rattle.std.specs.Prelude.{ℕ, List, [], ◌∷◌, ◌++◌, codes, decimal}
 use Rattle.std.specs.List.{concat, flat_map, range_with_len}
 use Rattle.sync_types.specs.FaultSets.{FaultIds}
@@ -22,12 +22,12 @@ abbrev pub word_of_output : (word : (output v : ℕ) → List ℕ) → Meaning �
     → List ℕ
 word_of_output word counter config v = word (output_of counter config v) v
 
--- such lines, behind this label
+-- such lines, after this label
 abbrev pub output_wording : (label : List ℕ) → (word : (output v : ℕ) → List ℕ)
     → Wording (Unit {0})
 output_wording label word = shown_wording label (word_of_output word)
 
--- the line of configuration t, where all nodes that are correct in it show this output
+-- the line of configuration t, in which all correct nodes show this output
 abbrev pub counted_line : (label : List ℕ) → (word : (output v : ℕ) → List ℕ) → FaultIds
     → (t output : ℕ) → List ℕ
 counted_line label word faulty t output =
@@ -35,6 +35,6 @@ counted_line label word faulty t output =
     ∷ flat_map (word_or_star (word output) faulty.ids) (range_with_len 0 faulty.nodes)
     ∷ codes "\n" ∷ [])
 
--- an output and its text behind a space
+-- an output and its text after a space
 abbrev pub output_text : (output : ℕ) → Labelled
 output_text output = numbered (codes " ") output

@@ -15,7 +15,7 @@ pub use Rattle.layer_lines.specs.PlayedTexts.{Wording, numbered}
 abbrev pub line_of : {Kept : Type 0} → Wording Kept → Plan → Script → (c : ℕ) → Scene Kept → List ℕ
 line_of wording plan script c scene = any.line_of wording (plan_meaning plan) script c scene
 
--- that line, where there is one
+-- that line, if there is one
 abbrev pub line_if_shown : {Kept : Type 0} → Wording Kept → Plan → Script → (c : ℕ) → Scene Kept
     → List ℕ
 line_if_shown wording plan script c scene =
@@ -23,14 +23,14 @@ line_if_shown wording plan script c scene =
 
 module _ {Kept : Type 0} (plan : Plan) (script : Script) (layer : Layer Kept)
     (began : List Kept) where
-  -- scene c of what is played, where the nodes began with these things kept
+  -- scene c of what is played, if the nodes began with these things kept
   abbrev pub scene_in : (c : ℕ) → Scene Kept
   scene_in c = any.scene_in (plan_meaning plan) script layer began c
 
   abbrev pub configuration_in : (c : ℕ) → List State
   configuration_in c = any.configuration_in (plan_meaning plan) script layer began c
 
-  -- the line of configuration c, where there is one
+  -- the line of configuration c, if there is one
   abbrev pub line_in : Wording Kept → (c : ℕ) → List ℕ
   line_in wording c = any.line_in (plan_meaning plan) script layer began wording c
 
@@ -38,7 +38,7 @@ module _ {Kept : Type 0} (plan : Plan) (script : Script) (layer : Layer Kept)
   abbrev pub lines_text : Wording Kept → List ℕ
   lines_text wording = any.lines_text (plan_meaning plan) script layer began wording
 
-  -- those of configuration c and of the ones behind it before that end
+  -- those of configuration c and of the ones after it before that end
   abbrev pub lines_between : Wording Kept → (c end : ℕ) → List ℕ
   lines_between wording c end =
       any.lines_between (plan_meaning plan) script layer began wording c end

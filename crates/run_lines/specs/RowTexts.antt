@@ -15,7 +15,7 @@ use Rattle.run_lines.specs.OutputTexts.{output_wording}
 abbrev pub shown_word : Plan → List State → (v : ℕ) → List ℕ
 shown_word plan config v = number_word (shown (plan_depth plan) (state_of config v))
 
--- a node's word in a row: what it shows, or a star where it is faulty
+-- a node's word in a row: what it shows, or a star if it is faulty
 abbrev pub node_word : Plan → (faulty : List ℕ) → List State → (v : ℕ) → List ℕ
 node_word plan faulty config v = word_or_star (shown_word plan config) faulty v
 

@@ -5,8 +5,8 @@ use Rattle.sync_types.specs.States.{State}
 use Rattle.construction.specs.Plans.{Plan, plan_nodes}
 use Rattle.adversary_script.specs.Scripts.{Script}
 use Rattle.round_runner.specs.Locks.{is_locked}
-use Rattle.run_texts.specs.RunTexts as texts
-pub use Rattle.run_texts.specs.RunTexts.{bound_line, number_word, word_or_star, locked_line}
+use Rattle.machine_runner.specs.RunTexts as texts
+pub use Rattle.machine_runner.specs.RunTexts.{bound_line, number_word, word_or_star, locked_line}
 use Rattle.layer_lines.specs.LockTexts as any
 
 -- the words of all nodes

@@ -1,7 +1,7 @@
 use crate::{Lines, Output, OutputLines};
 use counter_core::NoOverlay;
-use edge_io::{RisingText, TextSink, WriteFault};
-use layer_runs::Play;
+use edge_io::{RisingText, Sink, Writer};
+use layer_laws::Play;
 use slot_table::SlotTable;
 
 /// The lines of a slot table: of each configuration that is shown, which nodes hold at the outputs
@@ -26,25 +26,20 @@ impl Lines<NoOverlay> for HoldLines {
         first <= play.at() && play.at() <= last
     }
 
-    fn put_front<K: TextSink, P: Play<NoOverlay>>(
+    fn put_front<K: Sink, P: Play<NoOverlay>>(
         &self,
-        sink: &mut K,
+        writer: &mut Writer<'_, K>,
         _play: &P,
         number: &RisingText,
-    ) -> Result<(), WriteFault> {
-        sink.rising(number)
+    ) {
+        writer.rising(number);
     }
 
-    fn put_word<K: TextSink, P: Play<NoOverlay>>(
-        &self,
-        sink: &mut K,
-        play: &P,
-        v: u32,
-    ) -> Result<(), WriteFault> {
+    fn put_word<K: Sink, P: Play<NoOverlay>>(&self, writer: &mut Writer<'_, K>, play: &P, v: u32) {
         if self.table.holder(play.output(v)) == Some(v) {
-            sink.text(b" 1")
+            writer.text(b" 1");
         } else {
-            sink.text(b" .")
+            writer.text(b" .");
         }
     }
 }
@@ -55,16 +50,11 @@ impl OutputLines for HoldLines {
 
     ghost word_at = { λ l. hold_word_at l.table };
 
-    fn put_word_at<K: TextSink>(
-        &self,
-        sink: &mut K,
-        output: &Output,
-        v: u32,
-    ) -> Result<(), WriteFault> {
+    fn put_word_at<K: Sink>(&self, writer: &mut Writer<'_, K>, output: &Output, v: u32) {
         if self.table.holder(output.value()) == Some(v) {
-            sink.text(b" 1")
+            writer.text(b" 1");
         } else {
-            sink.text(b" .")
+            writer.text(b" .");
         }
     }
 

@@ -18,15 +18,15 @@ pub fn holds_as_defined()
     ensures { HoldsAsDefined }
 {}
 
-/// What is written of consensus while a script is played, each line where its slot ends, is a line
+/// What is written of consensus while a script is played, each line when its slot ends, is a line
 /// of each slot that counts and begins in a configuration that is shown: whether one begins may be
-/// seen where it ends, by the output there.
+/// seen when it ends, by the output there.
 pub fn decisions_as_defined()
     ensures { DecisionsAsDefined }
 {}
 
-/// In each line of a slot table a node's word is 1 exactly where the table gives it the output that
-/// it shows.
+/// In each line of a slot table a node's word is 1 exactly if the table gives it the output that it
+/// shows.
 pub fn hold_words_are_exact()
     ensures { HoldWordsAreExact }
 {
@@ -39,15 +39,15 @@ pub fn at_most_one_in_a_line()
     ensures { AtMostOneInALine }
 {}
 
-/// What is written of firing while a script is played, each line where its slot ends, is a line of
+/// What is written of firing while a script is played, each line when its slot ends, is a line of
 /// each slot that counts and begins in a configuration that is shown, in the order of these.
 pub fn fires_as_defined()
     ensures { FiresAsDefined }
 {}
 
-/// What is written of a log while a script is played, each line where its slot ends, is a line of
+/// What is written of a log while a script is played, each line when its slot ends, is a line of
 /// each slot that counts and begins in a configuration that is shown, in the order of these. Its
-/// owner is that of the output there, though it is told by the output at the slot's end.
+/// owner is that of the output there, though it is found by the output at the slot's end.
 pub fn entries_as_defined()
     ensures { EntriesAsDefined }
 {}

@@ -4,7 +4,7 @@ ghost use Rattle.run_lines.specs.OutputTexts.{output_text};
 use edge_io::RisingText;
 
 /// What correct nodes show while they count: a number that rises by one modulo C, kept with its
-/// text behind a space.
+/// text after a space.
 #[derive(Drop)]
 pub struct Output {
     value: u64,
@@ -38,7 +38,7 @@ impl Output {
         self.value
     }
 
-    /// A space, and behind it the number.
+    /// A space, and after it the number.
     pub fn text(&self) -> &RisingText
         ensures { result.now ≡ output_text self.now.value }
     {

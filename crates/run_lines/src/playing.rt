@@ -3,14 +3,14 @@ ghost use Rattle.run_lines.specs.Playing.{IsToPlay, text_of};
 
 use counter_core::Overlay;
 use edge_io::{Sink, WriteFault};
+use layer_laws::Play;
 use layer_lines::Lines;
-use layer_runs::Play;
 use round_runner::Runner;
 
 /// Plays all rounds of a script on the counter of a plan, and writes the bound, a line of each
 /// configuration that has one, and the first locked configuration of each era. It takes no memory.
 ///
-/// The runner is at configuration 0. `WriteFault` comes where the sink counted one; a front of the
+/// The runner is at configuration 0. `WriteFault` comes if the sink counted one; a prefix of the
 /// text was then taken.
 pub fn put_played<K: Sink, O: Overlay, L: Lines<O>>(
     sink: &mut K,
@@ -21,6 +21,6 @@ pub fn put_played<K: Sink, O: Overlay, L: Lines<O>>(
     ensures { Puts result (text_of O.layer O.kept (L.wording lines.now) runner.old)
         (K.told sink.old) (K.told sink.new) }
 {
-    runner.tell();
+    runner.facts();
     layer_lines::put_played(sink, runner, lines)
 }

@@ -1,7 +1,7 @@
 use crate::{Lines, Output, OutputLines};
 use counter_core::NoOverlay;
-use edge_io::{RisingText, TextSink, WriteFault};
-use layer_runs::Play;
+use edge_io::{RisingText, Sink, Writer};
+use layer_laws::Play;
 
 /// The rows of the word `run`: of each configuration that is shown, what its nodes show.
 #[derive(Clone, Copy, Debug, Drop)]
@@ -21,22 +21,17 @@ impl Lines<NoOverlay> for Rows {
         first <= play.at() && play.at() <= last
     }
 
-    fn put_front<K: TextSink, P: Play<NoOverlay>>(
+    fn put_front<K: Sink, P: Play<NoOverlay>>(
         &self,
-        sink: &mut K,
+        writer: &mut Writer<'_, K>,
         _play: &P,
         number: &RisingText,
-    ) -> Result<(), WriteFault> {
-        sink.rising(number)
+    ) {
+        writer.rising(number);
     }
 
-    fn put_word<K: TextSink, P: Play<NoOverlay>>(
-        &self,
-        sink: &mut K,
-        play: &P,
-        v: u32,
-    ) -> Result<(), WriteFault> {
-        sink.labelled(b" ", play.output(v))
+    fn put_word<K: Sink, P: Play<NoOverlay>>(&self, writer: &mut Writer<'_, K>, play: &P, v: u32) {
+        writer.labelled(b" ", play.output(v));
     }
 }
 
@@ -46,18 +41,13 @@ impl OutputLines for Rows {
 
     ghost word_at = { λ _ output v. number_word output };
 
-    fn put_word_at<K: TextSink>(
-        &self,
-        sink: &mut K,
-        output: &Output,
-        _v: u32,
-    ) -> Result<(), WriteFault> {
+    fn put_word_at<K: Sink>(&self, writer: &mut Writer<'_, K>, output: &Output, _v: u32) {
         let value = output.value();
         if value < 10 {
             // Two bytes, which are placed without a call that copies them.
-            sink.text(&[b' ', b'0' + value as u8])
+            writer.text(&[b' ', b'0' + value as u8]);
         } else {
-            sink.rising(output.text())
+            writer.rising(output.text());
         }
     }
 

@@ -1,4 +1,4 @@
--- A bound behind all columns.
+-- A bound after all columns.
 use Rattle.std.proofs.Common.{◌≡◌, ℕ, ◌+◌, ◌≤◌, Bool, true, false, ◌&&◌, List, [], refl, ap, ◌∙◌}
 use Rattle.std.specs.Prelude.{if◌then◌else◌, nat_le, nat_lt, Option}
 use Rattle.std.proofs.lemmas.Bool.{le-ltb}
@@ -21,7 +21,7 @@ drawn_nowhere : (before has : Bool) (text : List ℕ) → has ≡ false
 drawn_nowhere true has text fails = rw fails refl
 drawn_nowhere false has text fails = refl
 
--- a bound behind all columns is not drawn
+-- a bound after all columns is not drawn
 pub bound_behind : (chart : Chart) (t : ℕ) (next : Option ℕ) → chart.first + chart.rows ≤ t
     → bound_at chart t next ≡ []
 bound_behind chart t next far =

@@ -21,14 +21,14 @@ abbrev pub cell_front : (first : ℕ) → Cell → List ℕ
 cell_front first cell =
     if cell.node == 0 then concat (codes "row " ∷ decimal (first + cell.row) ∷ []) else []
 
--- what stands behind the last one
+-- what stands after the last one
 abbrev pub cell_end : (nodes : ℕ) → Cell → List ℕ
 cell_end nodes cell = if cell.node + 1 == nodes then codes "\n" else []
 
 abbrev pub cell_words : (first nodes : ℕ) → Cell → List ℕ
 cell_words first nodes cell = cell_front first cell ++ (word_text cell.shown ++ cell_end nodes cell)
 
--- ---- lines behind the rows
+-- ---- lines after the rows
 
 abbrev pub end_words : End → List ℕ
 end_words end = era_words end.era ++ locked_words end.locked

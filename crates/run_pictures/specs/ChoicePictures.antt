@@ -38,7 +38,7 @@ dot point = concat (
     ∷ codes " nodes, T " ∷ decimal point.bound
     ∷ codes "</text></g>\n" ∷ [])
 
--- a plan, in a group that tells its line
+-- a plan, in a group with its line as the title
 abbrev pub point_picture : Point → List ℕ
 point_picture point = codes "<g><title>" ++ (point_words point ++ dot point)
 

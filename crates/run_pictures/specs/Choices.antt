@@ -32,7 +32,7 @@ abbrev pub is_plain : ℕ → Bool
 is_plain byte =
     (byte == 32) || ((byte == 59) || (is_between 48 57 byte || is_between 97 122 byte))
 
--- where a bound stands on the scale of decades: 0 where 1 does
+-- where a bound stands on the scale of decades: 0 stands where 1 does
 abbrev pub on_scale : ℕ → ℕ
 on_scale bound = if bound == 0 then 1 else bound
 
@@ -47,7 +47,7 @@ abbrev pub place_behind : Option Point → ℕ
 place_behind None = 0
 place_behind (Some before) = before.place + 1
 
--- A plan in its place, behind the one before it: the decade of its bound, and the first two digits
+-- A plan in its place, after the one before it: the decade of its bound, and the first two digits
 -- of that, or ten times a bound of one digit.
 pub record IsPlotted (before : Option Point) (point : Point) : Type 0 where
   pub better : is_better before point ≡ true

@@ -1,6 +1,6 @@
 -- What drawing a text does.
 use Rattle.std.specs.Prelude.{◌≡◌, ◌≤◌, ◌⊎◌, ℕ, length, List, Result, Ok, Err}
-use Rattle.texts.specs.Growth.{Told, Wrote, Cut}
+use Rattle.texts.specs.Growth.{SinkState, Wrote, Cut}
 use Rattle.run_pictures.specs.declared.charts.Chart.{Chart}
 use Rattle.run_pictures.specs.declared.choices.Point.{Point}
 use Rattle.run_pictures.specs.declared.sweep_charts.Sweep.{Sweep}
@@ -86,9 +86,9 @@ SweepAs form text holds = DrawsSweep text (λ picture. holds (formed form text p
 abbrev pub ChoiceAs : Form → (text : List ℕ) → (holds : List ℕ → Type 0) → Type 0
 ChoiceAs form text holds = DrawsChoice text (λ picture. holds (formed form text picture))
 
--- What was written of a text: its picture, or a front of it, or nothing.
+-- What was written of a text: its picture, or a prefix of it, or nothing.
 abbrev pub Does : {T : Type 0} → Result T DrawError
-    → (Shows : (List ℕ → Type 0) → Type 0) → (old new : Told) → Type 0
+    → (Shows : (List ℕ → Type 0) → Type 0) → (old new : SinkState) → Type 0
 Does (Ok value) Shows old new = Shows (λ picture. Wrote picture old new)
 Does (Err error.Write) Shows old new = Shows (λ picture. Cut picture old new)
 Does (Err other) Shows old new = new ≡ old

@@ -1,4 +1,4 @@
--- Where the words of a chart's rows belong, and the lines behind the rows.
+-- Where the words of a chart's rows belong, and the lines after the rows.
 use Rattle.std.specs.Prelude.{◌≡◌, ◌+◌, ◌*◌, ◌<◌, ◌≤◌, List, [], ◌∷◌, length, map, All, None}
 use Rattle.std.specs.List.{range_with_len}
 use Rattle.run_pictures.specs.declared.charts.End.{End}
@@ -11,7 +11,7 @@ AreNext [] = Unit {0}
 AreNext (end ∷ []) = end.next ≡ None
 AreNext (end ∷ next ∷ ends) = (end.next ≡ next.era) × AreNext (next ∷ ends)
 
--- The words come row by row, and in a row node by node; lines behind the rows know their places.
+-- The words come row by row, and in a row node by node; lines after the rows know their places.
 -- Colours go by what the outputs count by. There is a row, and a word in it.
 pub record IsLaid (chart : Chart) : Type 0 where
   pub some : (1 ≤ chart.rows) × (1 ≤ chart.nodes)

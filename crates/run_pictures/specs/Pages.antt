@@ -29,7 +29,7 @@ page_middle = concat (
     codes "<pre id='said'>Point at what is drawn. The arrow keys go on to the next cell.</pre>\n"
     ∷ codes "<pre id='rows' hidden>\n" ∷ [])
 
--- what stands behind the rows: how the page finds its cells
+-- what stands after the rows: how the page finds its cells
 abbrev pub page_script : List ℕ
 page_script = concat (
     codes "</pre>\n"
@@ -63,7 +63,7 @@ page_script = concat (
     ∷ codes "group.addEventListener('pointerover', () => choose(+told[2], +told[1], false));\n"
     ∷ codes "}\n" ∷ [])
 
--- what the page does where a cell is chosen
+-- what the page does when a cell is chosen
 abbrev pub page_choose : List ℕ
 page_choose = concat (
     codes "let now = null;\n"
@@ -106,7 +106,7 @@ page_keys = concat (
     ∷ codes "</body>\n"
     ∷ codes "</html>\n" ∷ [])
 
--- what stands behind a picture: the rows, and what the page does
+-- what stands after a picture: the rows, and what the page does
 abbrev pub page_behind : (rows : List ℕ) → List ℕ
 page_behind rows = page_middle ++ (rows ++ (page_script ++ (page_choose ++ page_keys)))
 

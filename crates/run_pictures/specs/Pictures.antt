@@ -53,14 +53,14 @@ locked_mark chart (Some t) = mark_row chart t 36 (codes "darkgreen") (codes "loc
 
 -- ---- below the bands
 
--- the front of a line of the caption
+-- the beginning of a line of the caption
 abbrev pub caption_front : (y : ℕ) → List ℕ
 caption_front y = concat (codes "<text text-anchor='start' x='4' y='" ∷ decimal y ∷ codes "'>" ∷ [])
 
 abbrev pub caption_at : (y : ℕ) → End → List ℕ
 caption_at y end = caption_front y ++ (end_words end ++ codes "</text>\n")
 
--- a line behind the rows
+-- a line after the rows
 abbrev pub caption : Chart → End → List ℕ
 caption chart end = caption_at (bottom (frame_of chart) + 60 + 16 * end.place) end
 
@@ -71,7 +71,7 @@ end_picture chart end =
 
 -- ---- the picture
 
--- the front, with the picture's width and height
+-- the beginning, with the picture's width and height
 abbrev pub sized_front : Chart → List ℕ
 sized_front chart =
     picture_front (picture_width (frame_of chart))

@@ -44,7 +44,7 @@ bar_part tally = concat (
     ∷ codes "' fill='" ∷ bar_colour tally.locked
     ∷ codes "'/></g>\n" ∷ [])
 
--- the same in a group that tells its line
+-- the same in a group with its line as the title
 abbrev pub bar : Tally → List ℕ
 bar tally = codes "<g><title>" ++ (tally_words tally ++ bar_part tally)
 
@@ -75,7 +75,7 @@ total_words y total words = concat (
     ∷ codes "'>" ∷ decimal total
     ∷ words ∷ [])
 
--- how many runs of an era lock, or how many there are where the last ones do not
+-- how many runs of an era lock, or how many there are if the last ones do not
 abbrev pub worst_front : (band total : ℕ) → Option ℕ → List ℕ
 worst_front band total (Some locked) =
     total_words (160 * band + 16) total (codes " runs lock, the worst: ")
@@ -105,11 +105,11 @@ tick_picture sweep tick = concat (
     ∷ codes "'>" ∷ decimal tick.number
     ∷ codes "</text>\n" ∷ [])
 
--- the middle of the range that the bound stands in, or what is behind the last bar
+-- the middle of the range that the bound stands in, or what is after the last bar
 abbrev pub bound_middle : Sweep → ℕ
 bound_middle sweep = bar_left sweep.bound_column + 7
 
--- what stands behind a bound that is beyond the last bar
+-- what stands after a bound that is beyond the last bar
 abbrev pub beyond_words : Sweep → List ℕ
 beyond_words sweep = if nat_lt sweep.bound_column sweep.columns then [] else codes " .."
 

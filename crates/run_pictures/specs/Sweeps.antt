@@ -32,7 +32,7 @@ locks_later None locked = false
 locks_later (Some before) None = true
 locks_later (Some before) (Some locked) = nat_lt before locked
 
--- Whether a line may come behind the one before it, if there is one: first locked configurations
+-- Whether a line may come after the one before it, if there is one: first locked configurations
 -- rise in an era, and eras rise, from that which begins at 0 on.
 abbrev pub comes_behind : Option Tally → Tally → Bool
 comes_behind None tally = tally.era == 0
@@ -62,7 +62,7 @@ abbrev pub has_lock : Option ℕ → Bool
 has_lock None = false
 has_lock (Some locked) = true
 
--- the line before knows whether no line of its era behind it has a first locked configuration
+-- the line before knows whether no line of its era after it has a first locked configuration
 abbrev pub is_worst_known : Option Tally → Tally → Bool
 is_worst_known None tally = true
 is_worst_known (Some before) tally =
@@ -72,14 +72,14 @@ is_worst_known (Some before) tally =
 
 -- ---- where they stand
 
--- a bar stands for as many configurations as each other one, from that on with which the era
--- begins; the runs that have no first locked configuration are on the right of all
+-- all bars stand for equally many configurations, from that on with which the era begins; the runs
+-- that have no first locked configuration are on the right of all
 abbrev pub StandsAt : Sweep → (era column : ℕ) → Option ℕ → Type 0
 StandsAt sweep era column None = column ≡ sweep.columns + 1
 StandsAt sweep era column (Some locked) =
     (era ≤ locked) × (column ≡ (locked - era) / sweep.span) × (column < sweep.columns)
 
--- A line in its place, behind the one before it. Its foot is rounded down and its head up, so that
+-- A line in its place, after the one before it. Its foot is rounded down and its head up, so that
 -- each line is at least 1 high.
 pub record IsPlaced (sweep : Sweep) (before : Option Tally) (tally : Tally) : Type 0 where
   pub behind : comes_behind before tally ≡ true
@@ -98,7 +98,7 @@ abbrev pub AreChained : {X : Type 0} → (Option X → X → Type 0) → Option 
 AreChained Holds before [] = Unit {0}
 AreChained Holds before (x ∷ xs) = Holds before x × AreChained Holds (Some x) xs
 
--- the last of them, or the one before all where there is none
+-- the last of them, or the one before all if there is none
 abbrev pub last_or : {X : Type 0} → Option X → List X → Option X
 last_or before [] = before
 last_or before (x ∷ xs) = last_or (Some x) xs
@@ -109,12 +109,12 @@ pub record IsReached (most : ℕ) (tallies : List Tally) : Type 0 where
   pub inside : place < length tallies
   pub is : (d : Tally) → (slice_index_or tallies place d).upto ≡ most
 
--- there is a last line, behind which there is none, and its era is the last one
+-- there is a last line, after which there is none, and its era is the last one
 abbrev pub IsEnd : Sweep → Option Tally → Type 0
 IsEnd sweep None = ⊥
 IsEnd sweep (Some tally) = (tally.is_worst ≡ true) × (sweep.bands ≡ tally.band + 1)
 
--- the bound stands where its range does, or behind the last bar where it is beyond that
+-- the bound stands where its range does, or after the last bar if it is beyond that
 abbrev pub IsBoundPlaced : Sweep → Type 0
 IsBoundPlaced sweep = sweep.bound_column ≡ min (sweep.bound / sweep.span) sweep.columns
 

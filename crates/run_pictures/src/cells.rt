@@ -7,7 +7,9 @@ ghost use Rattle.run_pictures.specs.Cells.{cell_at, cell_head, cell_picture, cel
 
 use crate::charts::Cell;
 use edge_io::{Sink, WriteFault};
-use picture_parts::{Frame, Spot, face_of, line_top, put_column_head, put_node_label, put_shown};
+use picture_parts::{
+    CellPosition, Frame, face_of, line_top, put_column_head, put_node_label, put_shown,
+};
 
 /// Writes what stands above a column, with the first cell.
 fn put_cell_head<K: Sink>(sink: &mut K, frame: Frame, cell: Cell) -> Result<(), WriteFault>
@@ -21,10 +23,10 @@ fn put_cell_head<K: Sink>(sink: &mut K, frame: Frame, cell: Cell) -> Result<(), 
 }
 
 /// Where a cell is drawn.
-fn cell_spot(frame: Frame, cell: Cell) -> Spot
+fn cell_spot(frame: Frame, cell: Cell) -> CellPosition
     ensures { result ≡ cell_spot frame cell }
 {
-    Spot {
+    CellPosition {
         frame,
         column: cell.row,
         top: line_top(cell.node),
@@ -32,7 +34,7 @@ fn cell_spot(frame: Frame, cell: Cell) -> Spot
 }
 
 /// Draws a cell in its spot, with the labels that stand beside it.
-fn put_cell_at<K: Sink>(sink: &mut K, spot: Spot, cell: Cell) -> Result<(), WriteFault>
+fn put_cell_at<K: Sink>(sink: &mut K, spot: CellPosition, cell: Cell) -> Result<(), WriteFault>
     ensures { Puts result (cell_at spot cell) (K.told sink.old) (K.told sink.new) }
 {
     written!(put_cell_head(sink, spot.frame, cell));

@@ -10,13 +10,13 @@ use picture_parts::{Frame, band_height};
 pub struct Cell {
     pub row: u32,
     pub node: u16,
-    /// The output, or None where a star stands for a faulty node.
+    /// The output, or None if a star stands for a faulty node.
     pub shown: Option<u64>,
     /// Whether the rows show that the start of an era put it into another state.
     pub is_hit: bool,
 }
 
-/// A line behind the rows: the first locked configuration of an era, if there is one.
+/// A line after the rows: the first locked configuration of an era, if there is one.
 #[derive(Clone, Copy)]
 pub struct End {
     /// How many such lines stand before it.
@@ -29,7 +29,7 @@ pub struct End {
     pub next: Option<u32>,
 }
 
-/// What `run` wrote: the bound, the rows, and the lines behind them.
+/// What `run` wrote: the bound, the rows, and the lines after them.
 pub struct Chart {
     pub bound: u64,
     /// The configuration of the first row.
@@ -39,14 +39,14 @@ pub struct Chart {
     pub rows: u32,
     /// How many digits the longest number of a row has, that of its configuration too.
     pub digits: u16,
-    /// One more than the largest output, or 0 where there is none.
+    /// One more than the largest output, or 0 if there is none.
     pub modulus: u64,
     /// The words of all rows, one after the other.
     pub cells: Vec<Cell>,
     pub ends: Vec<End>,
 }
 
-// Written out, so that what lets go of one calls this, and no more.
+// Written out, so that code that drops one has a single call.
 impl Drop for Chart {
     fn drop(self) {
         let Chart {
@@ -72,7 +72,7 @@ impl Chart {
         &self.cells
     }
 
-    /// The lines behind the rows.
+    /// The lines after the rows.
     pub fn lines(&self) -> &[End]
         ensures { result.now ≡ self.now.ends.items }
     {

@@ -8,7 +8,7 @@ ghost use Rattle.run_pictures.specs.ChoicePictures.{dot, numbers_top, point_left
 ghost use Rattle.run_pictures.specs.ChoicePictures.{point_top};
 
 use crate::choices::{Point, put_point_words};
-use edge_io::{Gathered, Piece, Sink, WriteFault, put_all, put_pieces};
+use edge_io::{Piece, Sink, WriteFault, Writer, put_all, put_pieces};
 use picture_parts::{put_front, put_ground};
 
 /// How far below the top a bound stands.
@@ -67,7 +67,7 @@ fn put_dot<K: Sink>(sink: &mut K, point: &Point<'_>) -> Result<(), WriteFault>
     )
 }
 
-/// Draws a plan, which tells its line.
+/// Draws a plan, with its line as the title.
 fn put_point<K: Sink>(sink: &mut K, point: &Point<'_>) -> Result<(), WriteFault>
     ensures { Puts result (point_picture point.now) (K.told sink.old) (K.told sink.new) }
 {
@@ -108,7 +108,7 @@ fn put_choice_axes<K: Sink>(sink: &mut K) -> Result<(), WriteFault>
     )
 }
 
-/// Writes the front, with the picture's width and height.
+/// Writes the beginning, with the picture's width and height.
 fn put_choice_front<K: Sink>(sink: &mut K, points: &[Point<'_>]) -> Result<(), WriteFault>
     ensures { Puts result (choice_front points.now) (K.told sink.old) (K.told sink.new) }
 {
@@ -130,7 +130,7 @@ fn put_parts<K: Sink>(sink: &mut K, points: &[Point<'_>]) -> Result<(), WriteFau
 pub fn put_choice_picture<K: Sink>(sink: &mut K, points: &[Point<'_>]) -> Result<(), WriteFault>
     ensures { Puts result (choice_picture points.now) (K.told sink.old) (K.told sink.new) }
 {
-    let mut parts = Gathered::new(sink);
+    let mut parts = Writer::gathering(sink);
     let written = put_parts(&mut parts, points);
-    parts.finish(written)
+    parts.finish_with(written)
 }

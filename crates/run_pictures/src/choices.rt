@@ -18,7 +18,7 @@ const MOST_BOUND: u64 = 1 << 50;
 pub struct Point<'a> {
     pub nodes: u32,
     pub bound: u64,
-    /// What stands behind these in its line: other numbers, and its text.
+    /// What stands after these in its line: other numbers, and its text.
     pub rest: &'a [u8],
     /// How many plans stand before it.
     pub place: u32,
@@ -93,7 +93,7 @@ fn are_plain(bytes: &[u8]) -> bool
     true
 }
 
-/// Where a bound stands on the scale of decades: 0 where 1 does.
+/// Where a bound stands on the scale of decades: 0 stands where 1 does.
 fn on_scale(bound: u64) -> u64
     ensures value { result ≡ on_scale bound }
     ensures least { 1 ≤ result }
@@ -151,7 +151,7 @@ fn place_behind(before: Option<Point<'_>>) -> u64
     }
 }
 
-/// Whether a plan is in its place, behind the one before it.
+/// Whether a plan is in its place, after the one before it.
 fn is_plotted(before: Option<Point<'_>>, point: Point<'_>) -> bool
     ensures { result ≡ true → IsPlotted before.entry point.entry }
 {
@@ -179,7 +179,7 @@ pub fn are_plotted(points: &[Point<'_>]) -> bool
 
 // ---- reading
 
-/// What stands behind the first four words of a line.
+/// What stands after the first four words of a line.
 fn rest_of(line: &[u8]) -> &[u8] {
     let mut rest = line;
     for _ in 0..4 {
@@ -224,7 +224,7 @@ pub fn is_choice(text: &[u8]) -> bool {
     point_of(line).is_some()
 }
 
-/// Takes a line, behind those before it.
+/// Takes a line, after those before it.
 fn take<'a>(points: &mut Vec<Point<'a>>, line: &'a [u8]) -> Result<(), LineError> {
     let Some(mut point) = point_of(line) else {
         return Err(LineError::Unwanted);

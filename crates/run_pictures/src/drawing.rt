@@ -279,13 +279,13 @@ fn draw_choice<K: Sink>(
     draw_points(alloc, &points, text, form, sink)
 }
 
-/// Draws a text that `run`, `trace`, `sweep` or `choose` wrote. Where it answers Ok, the text is
-/// that of a chart, of a trace of either kind, of a sweep or of a choice, letter for letter, and
-/// the picture of this was written, or the page of it.
+/// Draws a text that `run`, `trace`, `sweep` or `choose` wrote. If it answers Ok, the text is that
+/// of a chart, of a trace of either kind, of a sweep or of a choice, letter for letter, and the
+/// picture of this was written, or the page of it.
 ///
-/// `Chart` comes where a line is not what should stand there, `Open` where the last newline is
-/// missing, `NoMemory` where memory ran out; then nothing was written. `Write` comes where the sink
-/// counted a fault; a front of the picture was then taken.
+/// `Chart` comes if a line is not what should stand there, `Open` if the last newline is missing,
+/// `NoMemory` if memory ran out; then nothing was written. `Write` comes if the sink counted a
+/// fault; a prefix of the picture was then taken.
 pub fn draw<K: Sink>(alloc: Global, text: &[u8], form: Form, sink: &mut K) -> Result<(), DrawError>
     ensures { Does result (DrawsAs form text.now) (K.told sink.old) (K.told sink.new) }
 {

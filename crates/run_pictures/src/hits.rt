@@ -12,7 +12,7 @@ fn most_shown(cells: &[Cell]) -> u64 {
     most
 }
 
-/// Marks the nodes that the start of an era hits in a row, where that before it is locked: those
+/// Marks the nodes that the start of an era hits in a row, if the row before it is locked: those
 /// which are correct in both rows and do not count on.
 fn mark_row(cells: &mut [Cell], nodes: usize, row: usize, most: u64) {
     for node in 0..nodes {

@@ -1,4 +1,4 @@
-//! Whether the words of a chart stand where they belong, and the lines behind its rows.
+//! Whether the words of a chart stand where they belong, and the lines after its rows.
 
 ghost use Rattle.std.specs.Prelude.{◌≡◌, ◌+◌, ◌*◌, ◌<◌, length, map, All, true};
 ghost use Rattle.std.specs.List.{range_with_len};
@@ -85,7 +85,7 @@ fn is_modulus_of(cells: &[Cell], modulus: u64) -> bool
     are_below(modulus, cells) && (modulus == 0 || has_output(cells, modulus - 1))
 }
 
-/// Whether the words of a chart stand where they belong, and the lines behind its rows, and whether
+/// Whether the words of a chart stand where they belong, and the lines after its rows, and whether
 /// colours go by what the outputs count by.
 pub fn is_laid(chart: &Chart) -> bool
     ensures { result ≡ true → IsLaid chart.now }

@@ -12,7 +12,7 @@
 //! and bars are, and who is found hit, is not.
 #![tactic(auto)]
 
-// As `?` behind a part of a text that is written, but with no call of its own.
+// As `?` after a part of a text that is written, but with no call of its own.
 macro_rules! written {
     ($part:expr) => {
         match $part {

@@ -95,7 +95,7 @@ fn put_bound_at<K: Sink>(
     }
 }
 
-/// Draws the bound, counted from where an era begins, if the era is so long. A bound behind all
+/// Draws the bound, counted from where an era begins, if the era is so long. A bound after all
 /// columns has none.
 fn put_bound_mark<K: Sink>(sink: &mut K, chart: &Chart, end: End) -> Result<(), WriteFault>
     ensures { Puts result (bound_mark chart.now end) (K.told sink.old) (K.told sink.new) }
@@ -122,7 +122,7 @@ fn put_locked_mark<K: Sink>(
     }
 }
 
-/// Writes the front of a line of the caption.
+/// Writes the beginning of a line of the caption.
 fn put_caption_front<K: Sink>(sink: &mut K, y: u64) -> Result<(), WriteFault>
     ensures { Puts result (caption_front y) (K.told sink.old) (K.told sink.new) }
 {
@@ -156,7 +156,7 @@ fn put_caption<K: Sink>(sink: &mut K, chart: &Chart, end: End) -> Result<(), Wri
     )
 }
 
-/// Draws what a line behind the rows says.
+/// Draws what a line after the rows says.
 fn put_end_picture<K: Sink>(sink: &mut K, chart: &Chart, end: End) -> Result<(), WriteFault>
     ensures { Puts result (end_picture chart.now end) (K.told sink.old) (K.told sink.new) }
 {
@@ -166,7 +166,7 @@ fn put_end_picture<K: Sink>(sink: &mut K, chart: &Chart, end: End) -> Result<(),
     put_caption(sink, chart, end)
 }
 
-/// Draws what the lines behind the rows say.
+/// Draws what the lines after the rows say.
 pub fn put_ends<K: Sink>(sink: &mut K, chart: &Chart, ends: &[End]) -> Result<(), WriteFault>
     ensures { Puts result (flat_map (end_picture chart.now) ends.now)
         (K.told sink.old) (K.told sink.new) }

@@ -60,7 +60,7 @@ fn put_page_middle<K: Sink>(sink: &mut K) -> Result<(), WriteFault>
     )
 }
 
-/// Writes what stands behind the rows: how the page finds its cells.
+/// Writes what stands after the rows: how the page finds its cells.
 fn put_page_script<K: Sink>(sink: &mut K) -> Result<(), WriteFault>
     ensures { Puts result page_script (K.told sink.old) (K.told sink.new) }
 {
@@ -99,7 +99,7 @@ fn put_page_script<K: Sink>(sink: &mut K) -> Result<(), WriteFault>
     )
 }
 
-/// Writes what the page does where a cell is chosen.
+/// Writes what the page does when a cell is chosen.
 fn put_page_choose<K: Sink>(sink: &mut K) -> Result<(), WriteFault>
     ensures { Puts result page_choose (K.told sink.old) (K.told sink.new) }
 {
@@ -152,7 +152,7 @@ fn put_page_keys<K: Sink>(sink: &mut K) -> Result<(), WriteFault>
     )
 }
 
-/// Writes what stands behind a picture: the rows, and what the page does.
+/// Writes what stands after a picture: the rows, and what the page does.
 fn put_page_behind<K: Sink>(sink: &mut K, rows: &[u8]) -> Result<(), WriteFault>
     ensures { Puts result (page_behind rows.now) (K.told sink.old) (K.told sink.new) }
 {

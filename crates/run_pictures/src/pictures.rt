@@ -9,13 +9,13 @@ ghost use Rattle.picture_parts.specs.Fronts.{picture_width};
 use crate::cells::put_cells;
 use crate::charts::{Chart, End};
 use crate::marks::put_ends;
-use edge_io::{Gathered, Piece, Sink, WriteFault, put_all, put_pieces};
+use edge_io::{Piece, Sink, WriteFault, Writer, put_all, put_pieces};
 use picture_parts::{
     Frame, bottom, picture_width, put_colour_legend, put_front, put_ground, put_number_caption,
     put_span,
 };
 
-/// Writes the front, with the picture's width and height.
+/// Writes the beginning, with the picture's width and height.
 fn put_sized_front<K: Sink>(sink: &mut K, chart: &Chart) -> Result<(), WriteFault>
     ensures { Puts result (sized_front chart.now) (K.told sink.old) (K.told sink.new) }
 {
@@ -100,7 +100,7 @@ fn put_parts<K: Sink>(sink: &mut K, chart: &Chart) -> Result<(), WriteFault>
 pub fn put_picture<K: Sink>(sink: &mut K, chart: &Chart) -> Result<(), WriteFault>
     ensures { Puts result (picture_text chart.now) (K.told sink.old) (K.told sink.new) }
 {
-    let mut parts = Gathered::new(sink);
+    let mut parts = Writer::gathering(sink);
     let written = put_parts(&mut parts, chart);
-    parts.finish(written)
+    parts.finish_with(written)
 }

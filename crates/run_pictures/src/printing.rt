@@ -19,7 +19,7 @@ fn put_word<K: Sink>(sink: &mut K, shown: Option<u64>) -> Result<(), WriteFault>
     }
 }
 
-/// Writes the front of a row, before its first word.
+/// Writes the beginning of a row, before its first word.
 fn put_front<K: Sink>(sink: &mut K, first: u32, cell: Cell) -> Result<(), WriteFault>
     ensures { Puts result (cell_front first cell) (K.told sink.old) (K.told sink.new) }
 {
@@ -36,7 +36,7 @@ fn put_front<K: Sink>(sink: &mut K, first: u32, cell: Cell) -> Result<(), WriteF
     }
 }
 
-/// Writes the end of a row, behind its last word.
+/// Writes the end of a row, after its last word.
 fn put_row_end<K: Sink>(sink: &mut K, nodes: u16, cell: Cell) -> Result<(), WriteFault>
     ensures { Puts result (cell_end nodes cell) (K.told sink.old) (K.told sink.new) }
 {
@@ -47,7 +47,7 @@ fn put_row_end<K: Sink>(sink: &mut K, nodes: u16, cell: Cell) -> Result<(), Writ
     }
 }
 
-/// Writes a word of a row, with what stands before the first one and behind the last one.
+/// Writes a word of a row, with what stands before the first one and after the last one.
 fn put_cell<K: Sink>(sink: &mut K, first: u32, nodes: u16, cell: Cell) -> Result<(), WriteFault>
     ensures { Puts result (cell_words first nodes cell) (K.told sink.old) (K.told sink.new) }
 {
@@ -67,7 +67,7 @@ fn put_rows<K: Sink>(sink: &mut K, first: u32, nodes: u16, cells: &[Cell]) -> Re
     Ok(())
 }
 
-/// Writes a line behind the rows, without its newline.
+/// Writes a line after the rows, without its newline.
 pub fn put_end<K: Sink>(sink: &mut K, end: End) -> Result<(), WriteFault>
     ensures { Puts result (end_words end) (K.told sink.old) (K.told sink.new) }
 {
@@ -75,7 +75,7 @@ pub fn put_end<K: Sink>(sink: &mut K, end: End) -> Result<(), WriteFault>
     put_locked(sink, end.locked)
 }
 
-/// Writes a line behind the rows.
+/// Writes a line after the rows.
 fn put_end_line<K: Sink>(sink: &mut K, end: End) -> Result<(), WriteFault>
     ensures { Puts result (end_line end) (K.told sink.old) (K.told sink.new) }
 {
@@ -83,7 +83,7 @@ fn put_end_line<K: Sink>(sink: &mut K, end: End) -> Result<(), WriteFault>
     put_all(sink, b"\n")
 }
 
-/// Writes the lines behind the rows.
+/// Writes the lines after the rows.
 fn put_ends<K: Sink>(sink: &mut K, ends: &[End]) -> Result<(), WriteFault>
     ensures { Puts result (flat_map end_line ends.now) (K.told sink.old) (K.told sink.new) }
 {

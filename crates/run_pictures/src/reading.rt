@@ -16,7 +16,7 @@ const MOST_ERAS: usize = 17;
 /// A bound is below this.
 const MOST_BOUND: u64 = 1 << 50;
 
-/// A chart of which the front was read, and what should come next.
+/// A chart of which the beginning was read, and what should come next.
 #[derive(Drop)]
 struct Draft {
     chart: Chart,
@@ -97,7 +97,7 @@ fn take_row(draft: &mut Draft, line: &[u8]) -> Result<(), LineError> {
     }
 }
 
-/// Adds a line behind the rows.
+/// Adds a line after the rows.
 fn add_end(chart: &mut Chart, era: Option<u32>, locked: Option<u32>) -> Result<(), LineError> {
     let count = chart.ends.len();
     if count >= MOST_ERAS {
@@ -144,7 +144,7 @@ fn take_era(draft: &mut Draft, line: &[u8]) -> Result<(), LineError> {
     Ok(())
 }
 
-/// Takes the line behind the last row.
+/// Takes the line after the last row.
 fn take_first_end(draft: &mut Draft, line: &[u8]) -> Result<(), LineError> {
     match locked_line(line) {
         Some(locked) => {
@@ -189,7 +189,7 @@ fn empty(alloc: Global) -> Chart {
     }
 }
 
-/// Takes all lines, of which the last is behind the rows.
+/// Takes all lines, of which the last is after the rows.
 fn take_lines(draft: &mut Draft, text: &[u8]) -> Result<(), ChartError> {
     let mut next = 1;
     for (line, bytes) in Lines::new(text, 1) {
@@ -207,7 +207,7 @@ fn take_lines(draft: &mut Draft, text: &[u8]) -> Result<(), ChartError> {
     Ok(())
 }
 
-/// One more than the largest output, or 0 where there is none.
+/// One more than the largest output, or 0 if there is none.
 fn modulus_of(cells: &[Cell]) -> u64 {
     let mut modulus = 0;
     for cell in cells {
@@ -228,7 +228,7 @@ fn end_chart(chart: &mut Chart) {
 }
 
 /// Reads a chart. The error is the first line that is not what should stand there, which is the
-/// line after the last where one is missing; or want of memory.
+/// line after the last if one is missing; or want of memory.
 pub fn read_chart(alloc: Global, text: &[u8]) -> Result<Chart, ChartError> {
     let mut draft = Draft {
         chart: empty(alloc),

@@ -23,7 +23,7 @@ pub struct Tally {
     /// The height at which its part of the bar begins, and the one at which it ends.
     pub foot: u64,
     pub head: u64,
-    /// Whether no line of its era behind it has a first locked configuration.
+    /// Whether no line of its era after it has a first locked configuration.
     pub is_worst: bool,
 }
 
@@ -38,7 +38,7 @@ pub struct Tick {
 pub struct Sweep {
     /// The plan's bound.
     pub bound: u64,
-    /// The bar in whose range it stands, or that behind the last one.
+    /// The bar in whose range it stands, or that after the last one.
     pub bound_column: u32,
     /// How many configurations a bar stands for.
     pub span: u32,
@@ -52,7 +52,7 @@ pub struct Sweep {
     pub ticks: Vec<Tick>,
 }
 
-// Written out, so that what lets go of one calls this, and no more.
+// Written out, so that code that drops one has a single call.
 impl Drop for Sweep {
     fn drop(self) {
         let Sweep {

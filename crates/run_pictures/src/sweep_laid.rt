@@ -19,7 +19,7 @@ fn locks_later(before: Option<u32>, locked: Option<u32>) -> bool
     }
 }
 
-/// Whether a line may come behind the one before it, if there is one.
+/// Whether a line may come after the one before it, if there is one.
 pub fn comes_behind(before: Option<Tally>, tally: Tally) -> bool
     ensures { result ≡ comes_behind before tally }
 {
@@ -93,7 +93,7 @@ fn has_lock(locked: Option<u32>) -> bool
     }
 }
 
-/// Whether the line before knows whether no line of its era behind it has a first locked
+/// Whether the line before knows whether no line of its era after it has a first locked
 /// configuration.
 fn is_worst_known(before: Option<Tally>, tally: Tally) -> bool
     ensures { result ≡ is_worst_known before tally }
@@ -147,7 +147,7 @@ fn is_scaled(most: u32, tally: Tally) -> bool
         && tally.head == (upto * 100 + (u64::from(most) - 1)) / u64::from(most)
 }
 
-/// Whether a line is in its place, behind the one before it.
+/// Whether a line is in its place, after the one before it.
 fn is_placed(sweep: &Sweep, before: Option<Tally>, tally: Tally) -> bool
     requires span { 1 ≤ sweep.now.span }
     requires most { 1 ≤ sweep.now.most }
@@ -162,7 +162,7 @@ fn is_placed(sweep: &Sweep, before: Option<Tally>, tally: Tally) -> bool
         && is_scaled(sweep.most, tally)
 }
 
-/// Whether there is a last line, behind which there is none, and its era is the last one.
+/// Whether there is a last line, after which there is none, and its era is the last one.
 fn is_end(sweep: &Sweep, last: Option<Tally>) -> bool
     ensures { result ≡ true → IsEnd sweep.now last }
 {
@@ -221,7 +221,7 @@ fn are_numbered(span: u32, ticks: &[Tick]) -> bool
     true
 }
 
-/// Whether the bound stands where its range does, or behind the last bar.
+/// Whether the bound stands where its range does, or after the last bar.
 fn is_bound_placed(sweep: &Sweep) -> bool
     requires { 1 ≤ sweep.now.span }
     ensures { result ≡ true → IsBoundPlaced sweep.now }

@@ -13,7 +13,7 @@ ghost use Rattle.run_pictures.specs.SweepPictures.{worst_front, worst_if, worst_
 
 use crate::sweep_charts::{Sweep, Tally, Tick};
 use crate::sweep_printing::put_tally_words;
-use edge_io::{Gathered, Piece, Sink, WriteFault, put_all, put_pieces};
+use edge_io::{Piece, Sink, WriteFault, Writer, put_all, put_pieces};
 use picture_parts::{put_front, put_ground};
 
 /// The left side of a bar.
@@ -53,14 +53,14 @@ fn none_middle(sweep: &Sweep) -> u64
     60 + 16 * (u64::from(sweep.columns) + 1) + 7
 }
 
-/// The middle of the range that the bound stands in, or what is behind the last bar.
+/// The middle of the range that the bound stands in, or what is after the last bar.
 fn bound_middle(sweep: &Sweep) -> u64
     ensures { result ≡ bound_middle sweep.now }
 {
     60 + 16 * u64::from(sweep.bound_column) + 7
 }
 
-/// What stands behind a bound that is beyond the last bar.
+/// What stands after a bound that is beyond the last bar.
 fn beyond_words(sweep: &Sweep) -> &'static [u8]
     ensures { result.now ≡ beyond_words sweep.now }
 {
@@ -101,7 +101,7 @@ fn put_bar_part<K: Sink>(sink: &mut K, tally: Tally) -> Result<(), WriteFault>
     )
 }
 
-/// Draws a part of a bar, which tells its line.
+/// Draws a part of a bar, with its line as the title.
 fn put_bar<K: Sink>(sink: &mut K, tally: Tally) -> Result<(), WriteFault>
     ensures { Puts result (bar tally) (K.told sink.old) (K.told sink.new) }
 {
@@ -172,7 +172,7 @@ fn put_total<'a, K: Sink>(
     )
 }
 
-/// Writes how many runs of an era lock, or how many there are where the last ones do not.
+/// Writes how many runs of an era lock, or how many there are if the last ones do not.
 fn put_worst_front<K: Sink>(
     sink: &mut K,
     band: u32,
@@ -312,7 +312,7 @@ fn put_foot<K: Sink>(sink: &mut K, sweep: &Sweep) -> Result<(), WriteFault>
     )
 }
 
-/// Writes the front, with the picture's width and height.
+/// Writes the beginning, with the picture's width and height.
 fn put_sweep_front<K: Sink>(sink: &mut K, sweep: &Sweep) -> Result<(), WriteFault>
     ensures { Puts result (sweep_front sweep.now) (K.told sink.old) (K.told sink.new) }
 {
@@ -339,7 +339,7 @@ fn put_parts<K: Sink>(sink: &mut K, sweep: &Sweep) -> Result<(), WriteFault>
 pub fn put_sweep_picture<K: Sink>(sink: &mut K, sweep: &Sweep) -> Result<(), WriteFault>
     ensures { Puts result (sweep_picture sweep.now) (K.told sink.old) (K.told sink.new) }
 {
-    let mut parts = Gathered::new(sink);
+    let mut parts = Writer::gathering(sink);
     let written = put_parts(&mut parts, sweep);
-    parts.finish(written)
+    parts.finish_with(written)
 }

@@ -40,7 +40,7 @@ fn put_tally_line<K: Sink>(sink: &mut K, tally: Tally) -> Result<(), WriteFault>
     put_all(sink, b"\n")
 }
 
-/// Writes all lines behind it.
+/// Writes all lines after the bound.
 fn put_tally_lines<K: Sink>(sink: &mut K, tallies: &[Tally]) -> Result<(), WriteFault>
     ensures { Puts result (flat_map tally_line tallies.now) (K.told sink.old) (K.told sink.new) }
 {

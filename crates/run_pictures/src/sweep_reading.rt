@@ -47,7 +47,7 @@ fn tally_line(line: &[u8]) -> Option<Tally> {
     })
 }
 
-/// Whether a text begins with the lines of a sweep: a bound, and what a line says behind it.
+/// Whether a text begins with the lines of a sweep: a bound, and what a line says after it.
 pub fn is_sweep(text: &[u8]) -> bool {
     let mut lines = Lines::new(text, 1);
     match (lines.next(), lines.next()) {
@@ -77,7 +77,7 @@ fn is_sound(tally: Tally) -> bool {
     tally.runs > 0 && tally.era <= locked && locked <= 1000000
 }
 
-/// Takes a line, behind those before it.
+/// Takes a line, after those before it.
 fn take(tallies: &mut Vec<Tally>, line: &[u8]) -> Result<(), LineError> {
     let Some(mut tally) = tally_line(line) else {
         return Err(LineError::Unwanted);
@@ -98,7 +98,7 @@ fn take(tallies: &mut Vec<Tally>, line: &[u8]) -> Result<(), LineError> {
     Ok(())
 }
 
-/// Takes all lines behind it.
+/// Takes all lines after the bound.
 fn take_lines(alloc: Global, lines: Lines<'_>) -> Result<Vec<Tally>, ChartError> {
     let mut tallies = Vec::new(alloc);
     for (line, bytes) in lines {
@@ -121,7 +121,7 @@ fn rounds_of(tally: Tally) -> u32 {
     tally.locked.unwrap_or(0).saturating_sub(tally.era)
 }
 
-/// How many configurations a bar stands for, where there are at most so many rounds.
+/// How many configurations a bar stands for, if there are at most so many rounds.
 fn span_of(rounds: u32) -> u32 {
     for span in &SPANS {
         if u64::from(rounds) < MOST_BARS * u64::from(*span) {
@@ -131,7 +131,7 @@ fn span_of(rounds: u32) -> u32 {
     50000
 }
 
-/// The bar in whose range a bound stands, or that behind the last one.
+/// The bar in whose range a bound stands, or that after the last one.
 fn bound_column(bound: u64, span: u32, columns: u32) -> u32 {
     let range = bound.checked_div(u64::from(span)).unwrap_or(0);
     u32::try_from(range).unwrap_or(columns).min(columns)

@@ -15,7 +15,7 @@ not_true false e = refl
 not_true true e = absurd (false≢true e)
 
 module _ (q : ℕ → Bool) (f : ℕ → Option ℕ) (z : Option ℕ) where
-  -- where all that pass have one value, it has all their places
+  -- if all that pass have one value, it has all their places
   all_places : (first count : ℕ)
       → ((u : ℕ) → first ≤ u → u < first + count → q u ≡ true → f u ≡ z)
       → length (map f (filter q (range_with_len first count)))
@@ -41,7 +41,7 @@ module _ (q : ℕ → Bool) (f : ℕ → Option ℕ) (z : Option ℕ) where
             ∙ value_itself z),
       )
 
--- one number that is read of all correct nodes is that of most, where these are more than the liars
+-- one number that is read of all correct nodes is that of most, if these are more than the liars
 pub common_stays : (s : Sent) (reads : ℕ → ℕ) (first count output liars : ℕ)
     → length (numbers_of s reads first count) + liars ≡ count → 2 * liars < count
     → ((u : ℕ) → first ≤ u → u < first + count → is_liar s u ≡ false → output_of s u ≡ output)

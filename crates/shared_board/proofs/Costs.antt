@@ -1,4 +1,4 @@
--- How much is counted in all groups together, where each group counts so much of each of its nodes.
+-- How much is counted in all groups together, if each group counts so much of each of its nodes.
 use Rattle.std.proofs.Common.{◌≡◌, ℕ, zero, suc, ◌+◌, ◌-◌, ◌*◌, ◌≤◌, List, [], ◌∷◌, Bool, true}
 use Rattle.std.proofs.Common.{false, not, cond, if◌then◌else◌, length, refl, sym, ap, ◌∙◌, arith}
 use Rattle.std.specs.List.{range_with_len, flat_map, sum_by}
@@ -15,12 +15,6 @@ module _ (weight : (first count : ℕ) → ℕ)
     → weight first (count + more) ≡ weight first count + weight (first + count) more) where
   abbrev pub group_weight : Group → ℕ
   group_weight g = weight g.first (nodes_in g)
-
-  none_weighs : (first : ℕ) → weight first 0 ≡ 0
-  none_weighs first =
-      let e : 0 + 0 ≡ 0 = omega arith in
-      let at : first + 0 ≡ first = omega arith in
-      omega (arith, adds first 0 0, ap (weight first) e, ap (λ a. weight a 0) at)
 
   less_weighs : (first count more : ℕ) → count ≤ more → weight first count ≤ weight first more
   less_weighs first count more le =
@@ -46,7 +40,7 @@ module _ (weight : (first count : ℕ) → ℕ)
       let product = ap (λ w. times * w) parts in
       omega (arith, sum, each a, again, product)
 
-  -- all groups together weigh at most as often the nodes as there are levels
+  -- all groups together weigh at most the nodes, once for each level
   pub groups_weigh : (levels : List Level) (first : ℕ)
       → sum_by group_weight (groups_of levels first) ≤ length levels * weight first
       (nodes_of levels)
@@ -102,7 +96,7 @@ honest_count faulty (suc count) first =
         let more = ap (λ b. place_among faulty first + (if b then 1 else 0)) e in
         omega (arith, here, more, next, at, again)
 
--- the correct nodes of two stretches, one behind the other
+-- the correct nodes of two stretches, one after the other
 pub honest_adds : (faulty : List ℕ) (first count more : ℕ)
     → length (honest_in faulty first (count + more))
     ≡ length (honest_in faulty first count) + length (honest_in faulty (first + count) more)

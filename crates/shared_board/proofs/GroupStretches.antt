@@ -1,9 +1,8 @@
 -- Stretches of a list that is made node by node.
-use Rattle.std.proofs.Common.{◌≡◌, ℕ, zero, suc, ◌+◌, ◌-◌, ◌*◌, ◌<◌, ◌≤◌, ◌∷◌, ◌++◌, map, take}
+use Rattle.std.proofs.Common.{◌≡◌, ℕ, zero, suc, ◌+◌, ◌-◌, ◌<◌, ◌≤◌, ◌∷◌, map, take}
 use Rattle.std.proofs.Common.{drop, refl, ap, ◌∙◌, arith}
 use Rattle.std.specs.List.{range_with_len}
 use Rattle.std.proofs.lemmas.List.FromFn.{take-map-range_with_len}
-use Rattle.construction.specs.Votes.{block}
 
 module _ {X : Type 0} (f : ℕ → X) where
   pub drop_range : (k a n : ℕ) → k ≤ n
@@ -27,11 +26,6 @@ module _ {X : Type 0} (f : ℕ → X) where
       ap (take m) (drop_range k a n (omega (arith, le)))
       ∙ take-map-range_with_len f (a + k) (n - k) m (omega (arith, le))
 
-  -- block i of n nodes
-  pub block_of_range : (n i a all : ℕ) → i * n + n ≤ all
-      → block n i (map f (range_with_len a all)) ≡ map f (range_with_len (a + i * n) n)
-  block_of_range n i a all le = stretch_of_range (i * n) a all n le
-
 -- what is the same at each node of a stretch
 pub same_range : {X : Type 0} → (f g : ℕ → X) (n a : ℕ)
     → ((i : ℕ) → a ≤ i → i < a + n → f i ≡ g i)
@@ -41,18 +35,3 @@ same_range f g (suc n) a same =
     ap (λ y. y ∷ map f (range_with_len (a + 1) n)) (same a (omega arith) (omega arith))
     ∙ ap (λ ys. g a ∷ ys)
     (same_range f g n (a + 1) (λ i le lt. same i (omega arith) (omega arith)))
-
--- two stretches, one behind the other
-pub range_two : (first count more : ℕ) → range_with_len first (count + more)
-    ≡ range_with_len first count ++ range_with_len (first + count) more
-range_two first zero more =
-    let e : first ≡ first + 0 = omega arith in
-    let n : 0 + more ≡ more = omega arith in
-    ap (range_with_len first) n ∙ ap (λ a. range_with_len a more) e
-range_two first (suc count) more =
-    let e : first + 1 + count ≡ first + suc count = omega arith in
-    let n : suc count + more ≡ suc (count + more) = omega arith in
-    ap (range_with_len first) n
-    ∙ ap (λ ys. first ∷ ys)
-    (range_two (first + 1) count more
-    ∙ ap (λ a. range_with_len (first + 1) count ++ range_with_len a more) e)

@@ -1,4 +1,4 @@
--- What is heard of a stretch of nodes, by what its correct ones have and its liars tell.
+-- What is heard of a stretch of nodes, by what its correct ones have and its liars say.
 use Rattle.std.proofs.Common.{◌≡◌, ℕ, ◌+◌, ◌≤◌, Bool, true, false, if◌then◌else◌, List, ◌++◌, map}
 use Rattle.std.proofs.Common.{length, replicate, Option, Some, unwrap_or, refl, sym, ap, ◌∙◌, arith}
 use Rattle.std.specs.List.{range_with_len}
@@ -21,9 +21,8 @@ use Rattle.shared_board.specs.Senders.{Sent, is_liar, output_of, register_of, co
 use Rattle.shared_board.specs.Senders.{liars_below, liars_in, values_of, IsTold, told_by, lies_in}
 use Rattle.shared_board.specs.Senders.{output_heard, outputs_heard, values_heard}
 use Rattle.shared_board.specs.Votes.{known_number, IsKnown}
-use Rattle.shared_board.proofs.Single.{single_number}
 
--- the liars of a stretch stand behind those before it
+-- the liars of a stretch stand after those before it
 pub liars_sum : (s : Sent) (first count : ℕ)
     → liars_below s first + liars_in s first count ≡ liars_below s (first + count)
 liars_sum s first count = omega (arith, shorter (is_liar s) first (first + count) (omega arith))
@@ -55,7 +54,7 @@ module _ (s : Sent) (lies : List State) (told : IsTold s lies) (first count : �
         ∙ ap (λ (g : ℕ → Option ℕ). map g (range_with_len first count))
         (fun_ext (λ u. number_by u (is_liar s u))))
 
-    -- the number that most have, among the true ones of the correct nodes and those told
+    -- the number that most have, among the true ones of the correct nodes and the lies
     pub number_heard : majority_or_zero (map f (outputs_heard s lies first count))
         ≡ unwrap_or (majority_of
         (map (λ u. Some (f (output_of s u))) (correct_in s first count) ++ map
@@ -66,7 +65,7 @@ module _ (s : Sent) (lies : List State) (told : IsTold s lies) (first count : �
         (heard_majority (zero_state 0) lies (is_liar s) told_number true_number first count
         (liars_in s first count) (liars_sum s first count) enough)
 
-    -- one that stays whatever is told is the one heard
+    -- one that stays whatever is said is the one heard
     pub number_stays : (m : Option ℕ)
         → MajorityStays (liars_in s first count)
         (map (λ u. Some (f (output_of s u))) (correct_in s first count)) m
@@ -116,7 +115,7 @@ module _ (s : Sent) (lies : List State) (told : IsTold s lies) (first count : �
       ∙ sym (count_of-append (values_of s first count)
       (map (λ t. (register_at s.height t).a) (lies_in s lies first count)) z)
 
-  -- as many lies are told as liars are there
+  -- there are as many lies as liars
   pub lies_long : length (lies_in s lies first count) ≡ liars_in s first count
   unfolding told_value true_value
   lies_long = sym (length-map (lies_in s lies first count) told_value)
@@ -147,15 +146,6 @@ pub number_known : (s : Sent) (first count : ℕ) → first + count ≤ length s
 number_known s first count within f (outlook.Is m) stays =
     λ lies told. number_stays s lies told first count within f m stays
 number_known s first count within f outlook.Open stays = tt
-
--- what is heard of one correct node
-pub number_of_one : (s : Sent) (first count : ℕ) → count ≡ 1 → is_liar s first ≡ false
-    → (f : ℕ → ℕ) (lies : List State)
-    → majority_or_zero (map f (outputs_heard s lies first count)) ≡ f (output_of s first)
-number_of_one s first count one ok f lies =
-    ap (λ n. majority_or_zero (map f (outputs_heard s lies first n))) one
-    ∙ (single_number (f (output_heard s lies first))
-    ∙ ap (λ b. f (if b then shown s.height (told_by s lies first) else output_of s first)) ok)
 
 -- some lies that may be told
 some_lies : Sent → List State

@@ -16,7 +16,7 @@ use Rattle.shared_board.proofs.GroupStretches.{same_range}
 use Rattle.shared_board.specs.Boards.{Board, sent_of}
 use Rattle.shared_board.proofs.RegistersHeard.{below_is}
 
--- two lists of lies, of which the liars of the nodes from one to before another tell the same
+-- two lists of lies, in which the liars from one node to before another say the same
 module _ (s : Sent) (lies told : List State) (from to : ℕ)
     (alike : (j : ℕ) → liars_below s from ≤ j → j < liars_below s to
     → state_of lies j ≡ state_of told j) where
@@ -51,7 +51,7 @@ module _ (s : Sent) (lies told : List State) (from to : ℕ)
       (λ u a b. heard_alike (λ t. (register_at s.height t).a) (register_of s u).a u (omega arith)
       (omega arith))
 
--- so the new register of a node of a group does that lies among them
+-- so does the new register of a node whose group lies among them
 pub register_alike : (b : Board) (h : ℕ) (lies told : List State) (from to : ℕ) → from ≤ to
     → to ≤ length b.states
     → ((j : ℕ) → place_among b.faulty from ≤ j → j < place_among b.faulty to

@@ -1,4 +1,4 @@
--- The lead and the beat of a group, where they are known.
+-- The lead and the beat of a group, if they are known.
 use Rattle.std.proofs.Common.{◌≡◌, ℕ, ◌+◌, ◌*◌, ◌/◌, ◌%◌, ◌<◌, List, IfSome, map, length, get_or}
 use Rattle.std.proofs.Common.{Option, Some, None, refl, sym, ap, ◌∙◌, subst, arith}
 use Rattle.std.specs.List.{range_with_len}
@@ -63,7 +63,7 @@ module _ (s : Sent) (intervals : List ℕ) (leaders first n : ℕ) where
         (lead_is_known (Some x) is) in
         subst (λ y. y < leaders) of_some.1 (lead_below of_some.0 some)
 
-  -- the beat heard is the part of the known lead, where that is known
+  -- the beat heard is the part of the known lead, if that is known
   pub beat_is_known : (beat : ℕ) (lead part : Option ℕ) (parts : List Votes)
       → IsKnown s (λ lies. blocks_lead s lies intervals leaders first n) lead
       → IsBeat s beat first n lead part parts

@@ -120,7 +120,7 @@ few_of : (votes : List (Option ℕ)) (most z : ℕ) (o : Option ℕ) → o ≡ S
 few_of votes most z None is few = absurd (cc)
 few_of votes most z (Some v) is few = subst (λ o. count_of votes o ≤ most) is few
 
--- where none can come to more than half, there is no lead
+-- if none can come to more than half, there is no lead
 pub lead_none : (votes : List (Option ℕ)) (most : ℕ)
     → ((i : ℕ) → i < length votes → HasFew votes most (get_or votes i None))
     → most + count_of votes None ≤ length votes / 2 → IsLead votes (Some 0)

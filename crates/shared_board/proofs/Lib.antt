@@ -1,5 +1,4 @@
 pub mod Passing
-pub mod Single
 pub mod Told
 pub mod Most
 pub mod FirstCorrect
@@ -22,7 +21,6 @@ pub mod Places
 pub mod Nested
 pub mod Costs
 pub mod Ids
-pub mod LieOrder
 pub mod ByPlace
 pub mod Filling
 pub mod Filled

@@ -21,7 +21,7 @@ locked_group first n f some liars registers value quorum is few locked = record 
   locked = locked;
 }
 
--- where a value is one of all correct registers, the group is locked there
+-- if a value is one of all correct registers, the group is locked there
 pub locked_if : (first n f some : ℕ) (liars : ℕ → Bool) (registers : ℕ → Reg) (value : Option ℕ)
     → 3 * f < n
     → some ≡ places liars (first + n) - places liars first → some ≤ f
@@ -33,7 +33,7 @@ locked_if first n f some liars registers (Some value) quorum is few locked =
     locked_group first n f some liars registers value quorum is few locked
 
 module _ (s : Sent) where
-  -- where all correct registers are locked, the first value is theirs
+  -- if all correct registers are locked, the first value is theirs
   pub first_locked : (at count first : ℕ)
       → ((u : ℕ) → first ≤ u → u < first + count → is_liar s u ≡ false
       → register_of s u ≡ locked_at at) → 0 < length (correct_in s first count)
@@ -58,7 +58,7 @@ module _ (s : Sent) where
   empty_by [] none = refl
   empty_by (x ∷ xs) none = absurd (none (omega arith))
 
-  -- where the first value is another, there is no correct register
+  -- if the first value is another, there is no correct register
   pub none_correct : (at count first : ℕ)
       → ((u : ℕ) → first ≤ u → u < first + count → is_liar s u ≡ false
       → register_of s u ≡ locked_at at) → (get_or (values_of s first count) 0 None ≡ Some at → ⊥)

@@ -10,7 +10,7 @@ use Rattle.shared_board.specs.Sharing.{place_among}
 use Rattle.shared_board.proofs.Ids.{places_of_all}
 use Rattle.shared_board.specs.Boards.{AreLiars}
 
--- one place more of a list that is filled place by place
+-- one more place of a list that is filled place by place
 pub one_more : {X : Type 0} → (f : ℕ → X) (v : ℕ) (x : X) (xs : List X) → v < length xs
     → take v xs ≡ map f (range_with_len 0 v) → x ≡ f v
     → take (v + 1) (set xs v x) ≡ map f (range_with_len 0 (v + 1))
@@ -32,7 +32,7 @@ pub at_most_one : (b : Bool) → (if b then 1 else 0) ≤ 1
 at_most_one true = omega arith
 at_most_one false = omega arith
 
--- one node more is counted, where it lies
+-- one more node is counted, if it lies
 pub counted : (ids : List ℕ) (v count : ℕ) (b : Bool) → b ≡ is_in ids v → count ≡ place_among ids v
     → count + (if b then 1 else 0) ≡ place_among ids (v + 1)
 counted ids v count b e h =

@@ -15,7 +15,8 @@ use Rattle.sync_types.specs.States.{State, zero_register, register_at}
 use Rattle.construction.specs.PhaseKing.{instructed, incremented, own_or_kings, up}
 use Rattle.plan_numbers.specs.declared.numbers.LevelNums.{LevelNums}
 use Rattle.plan_numbers.specs.Sizes.{block_nodes}
-use Rattle.shared_board.specs.Senders.{Sent, is_liar, register_of, correct_in, liars_below, liars_in}
+use Rattle.shared_board.specs.Senders.{Sent, is_liar, register_of, correct_in, liars_below}
+use Rattle.shared_board.specs.Senders.{liars_in}
 use Rattle.shared_board.specs.Senders.{values_of, IsTold, lies_in, value_heard, values_heard}
 use Rattle.shared_board.specs.GroupVotes.{AreNumbers, AreBelow, AreLies}
 use Rattle.shared_board.specs.Votes.{IsKnown}
@@ -42,10 +43,6 @@ module _ (s : Sent) (nums : LevelNums) (first : ℕ) (beat : ℕ) (own : Reg) (l
     (told : IsTold s lies) (within : first + nums.nodes ≤ length s.registers) where
   heard : List (Option ℕ)
   heard = values_heard s lies first nums.nodes
-
-  laid : List (Option ℕ)
-  laid = values_of s first nums.nodes ++ map (λ t. (register_at s.height t).a)
-      (lies_in s lies first nums.nodes)
 
   kind_at : (kind : ℕ) → beat % 3 ≡ kind
       → instructed nums.nodes nums.faults (up nums.modulus) kind own heard (beat / 3)
@@ -158,7 +155,7 @@ module _ (s : Sent) (nums : LevelNums) (first : ℕ) (beat : ℕ) (own : Reg) (l
       (values ++ map (λ t. (register_at s.height t).a) slice) ≡ m)
   least_laid known is values slice e g = least_by known is values slice e g
 
--- a register's value is in range, where all registers are
+-- a register's value is in range, if all registers are
 pub register_below : (s : Sent) (modulus : ℕ) → AreBelow modulus s.registers → (u : ℕ)
     → u < length s.registers → IfSome (register_of s u).a (λ a. a < modulus)
 register_below s modulus below u lt = below u zero_register lt
@@ -181,7 +178,7 @@ values_below s modulus first count within below =
     (All-filter (λ u. not (is_liar s u)) (λ u. u < length s.registers)
     (range_with_len first count) within_all k d lt))
 
--- what is counted of a stretch and told of it is in range
+-- what is counted of a stretch and of its lies is in range
 pub laid_below : (s : Sent) (modulus first count : ℕ) (lies : List State)
     → first + count ≤ length s.registers → AreBelow modulus s.registers
     → AreLies s.height modulus lies

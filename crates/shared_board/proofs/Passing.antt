@@ -3,7 +3,7 @@ use Rattle.std.proofs.Common.{◌≡◌, ℕ, zero, suc, ◌+◌, ◌-◌, ◌*�
 use Rattle.std.proofs.Common.{List, [], ◌∷◌, ◌++◌, map, length, sym, ap, ◌∙◌, arith}
 use Rattle.std.specs.List.{filter, range_with_len}
 use Rattle.std.proofs.lemmas.Nat.{mul-le}
-use Rattle.std.proofs.lemmas.List.{length-append, map-append}
+use Rattle.std.proofs.lemmas.List.{length-append, length-map, map-append}
 use Rattle.std.proofs.lemmas.List.Elements.{filter-append}
 use Rattle.std.proofs.lemmas.List.FromFn.{length-range_with_len}
 
@@ -26,7 +26,7 @@ module _ (q : ℕ → Bool) where
   abbrev pub passing : (first count : ℕ) → List ℕ
   passing first count = filter q (range_with_len first count)
 
-  -- two stretches, one behind the other
+  -- two stretches, one after the other
   pub passing_two : (first count more : ℕ)
       → passing first (count + more) ≡ passing first count ++ passing (first + count) more
   passing_two first count more = ap (filter q) (range_two first count more)
@@ -70,13 +70,24 @@ module _ (q : ℕ → Bool) where
       sym (ap length (passing_more first u le)
       ∙ length-append (passing first (u - first)) (passing u 1))
 
-  -- the same from place 0 on
-  pub mapped_next : {X : Type 0} (f : ℕ → X) (u : ℕ)
-      → map f (passing 0 u) ++ map f (passing u 1) ≡ map f (passing 0 (u + 1))
-  mapped_next f u =
-      let at : 0 + u ≡ u = omega arith in
-      sym (ap (map f) (passing_two 0 u 1 ∙ ap (λ a. passing 0 u ++ passing a 1) at)
-      ∙ map-append f (passing 0 u) (passing u 1))
+  -- one more place is read, if it passes
+  pub read_more : {X : Type 0} (f : ℕ → X) (first u : ℕ) (values new : List X) → first ≤ u
+      → values ≡ map f (passing first (u - first)) → new ≡ values ++ map f (passing u 1)
+      → new ≡ map f (passing first (u + 1 - first))
+  read_more f first u values new le so_far one =
+      one ∙ ap (λ xs. xs ++ map f (passing u 1)) so_far ∙ mapped_more f first u le
+
+  -- and there is room for what is read of all places
+  pub read_fits : {X : Type 0} (f : ℕ → X) (first u count room : ℕ) (values : List X) → first ≤ u
+      → u < first + count → count ≤ room → values ≡ map f (passing first (u - first))
+      → length values < room
+  read_fits f first u count room values le lt enough so_far =
+      omega (
+        arith,
+        ap length so_far,
+        length-map (passing first (u - first)) f,
+        passing_most first (u - first),
+      )
 
   -- the blocks so far and the next one
   pub blocks_more : (first i n : ℕ)
@@ -88,7 +99,7 @@ module _ (q : ℕ → Bool) where
       ∙ (ap length (passing_two first (i * n) n)
       ∙ length-append (passing first (i * n)) (passing (first + i * n) n)))
 
-  -- a front of a stretch has no more
+  -- a prefix of a stretch has no more
   pub passing_front : (first count more : ℕ) → count ≤ more
       → length (passing first count) ≤ length (passing first more)
   passing_front first count more le =

@@ -12,7 +12,7 @@ use Rattle.shared_board.specs.Groups.{Group, groups_of, group_count, group_at, i
 use Rattle.shared_board.proofs.Descent.{InBlock, in_block, place_inner, block_below, group_top}
 use Rattle.shared_board.proofs.Descent.{group_under, parted}
 
--- lists of one length, one behind the other
+-- lists of one length, one after the other
 module _ {A : Type 0} (f : ℕ → List A) (c : ℕ) (long : (i : ℕ) → length (f i) ≡ c) where
   pub length-pieces : (k a : ℕ) → length (flat_map f (range_with_len a k)) ≡ k * c
   length-pieces zero a = omega arith

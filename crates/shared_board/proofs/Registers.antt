@@ -1,4 +1,4 @@
--- The new register of a node of a group, and when nothing that is told matters to it.
+-- The new register of a node of a group, and when no lie matters to it.
 use Rattle.std.proofs.Common.{◌≡◌, ℕ, ◌+◌, ◌*◌, ◌/◌, ◌%◌, ◌<◌, List, sym, ap, ◌∙◌, subst, arith}
 use Rattle.sync_types.specs.declared.states.Reg.{Reg}
 use Rattle.sync_types.specs.States.{State, register_at}

@@ -1,4 +1,4 @@
--- What a level's senders tell is what is heard where the lies stand in the order of the liars.
+-- What a level's senders say is what is heard if the lies stand in the order of the liars.
 use Rattle.std.proofs.Common.{◌≡◌, ℕ, zero, suc, ◌+◌, ◌*◌, ◌<◌, ◌≤◌, Bool, true, false, not, cond}
 use Rattle.std.proofs.Common.{if◌then◌else◌, List, ◌∷◌, length, map, take, refl, sym, ap, ap₂, ◌∙◌}
 use Rattle.std.proofs.Common.{arith}

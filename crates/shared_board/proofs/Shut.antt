@@ -1,4 +1,4 @@
--- When nothing that is told matters to a node's new register.
+-- When no lie matters to a node's new register.
 use Rattle.std.proofs.Common.{◌≡◌, ℕ, ◌+◌, ◌-◌, ◌*◌, ◌/◌, ◌%◌, ◌<◌, ◌≤◌, ◌⊎◌, inl, inr, Bool, true}
 use Rattle.std.proofs.Common.{false, if◌then◌else◌, List, map, length, nat_le, get_or, Option, Some}
 use Rattle.std.proofs.Common.{None, refl, sym, ap, ◌∙◌, subst, arith}
@@ -24,7 +24,7 @@ use Rattle.shared_board.proofs.Heard.{count_parted, lies_long, known_of_some}
 use Rattle.shared_board.proofs.Obeys.{king_within}
 use Rattle.shared_board.proofs.Registers.{beat_of_group, beat_below}
 
--- a node that tells itself its own register hears that
+-- a node that says its own register to itself hears it
 own_by : (s : Sent) (lies : List State) (node : ℕ) (b : Bool) → is_liar s node ≡ b
     → TellsItself s lies node
     → (if b then (register_at s.height (told_by s lies node)).a else (register_of s node).a)
@@ -77,7 +77,7 @@ module _ (s : Sent) (group : Contents) (room : HasRoom group)
           lies_long s told is group.first group.nums.nodes within,
         )
 
-    -- the test of the own value, where the liars cannot decide it
+    -- the test of the own value, if the liars cannot decide it
     tests : (need : ℕ) (z : Option ℕ)
         → (need ≤ count_of (values_of s group.first group.nums.nodes) z)
         ⊎ (count_of (values_of s group.first group.nums.nodes) z + liars_in s group.first

@@ -1,4 +1,4 @@
--- The majority of values with those that are told.
+-- The majority of values with those of the lies.
 use Rattle.std.proofs.Common.{◌≡◌, ℕ, ◌+◌, ◌/◌, ◌<◌, ◌≤◌, List, ◌++◌, length, get_or, Option, Some}
 use Rattle.std.proofs.Common.{None, unwrap_or, sym, ap, subst, ⊎_elim, arith}
 use Rattle.std.proofs.lemmas.Bool.{cases_lt}
@@ -16,7 +16,7 @@ module _ (values told : List (Option ℕ)) (half : ℕ)
   found z above = sym (ap (λ o. unwrap_or o 0) (majority_is (values ++ told) z
       (omega (arith, is_half, above, length-append values told))))
 
-  -- one that so many hold without what is told
+  -- one that so many hold without the lies
   pub found_before : (z : ℕ) → least_above half values ≡ Some z
       → z ≡ unwrap_or (majority_of (values ++ told)) 0
   found_before z is = found z (omega (
@@ -25,7 +25,7 @@ module _ (values told : List (Option ℕ)) (half : ℕ)
     count_of-append values told (Some z),
   ))
 
-  -- there is none where neither the others nor what is told has one
+  -- there is none if neither the others nor the lies have one
   pub none_found : least_above half values ≡ None
       → ((k : ℕ) → k < length told → count_of (values ++ told) (get_or told k None) ≤ half)
       → 0 ≡ unwrap_or (majority_of (values ++ told)) 0

@@ -1,4 +1,4 @@
--- A block's vote, where its numbers are known by other names.
+-- A block's vote, if its numbers are known by other names.
 use Rattle.std.proofs.Common.{◌≡◌, ℕ, Option, sym, subst}
 use Rattle.majority_votes.specs.Votes.{Votes}
 use Rattle.shared_board.specs.Senders.{Sent}

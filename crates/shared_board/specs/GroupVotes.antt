@@ -25,7 +25,7 @@ pub record AreNumbers (nums : LevelNums) : Type 0 where
   pub beat : nums.beat ≡ beat_of (level_of nums)
   pub span : nums.span ≡ span_of (level_of nums)
 
--- what a group keeps, the lists without the room behind them
+-- what a group keeps, the lists without the room after them
 pub record Contents : Type 0 where
   pub nums : LevelNums
   pub first : ℕ
@@ -81,8 +81,8 @@ beat_of_lead s group lies =
     block_part s lies group.nums.beat (group.first + lead_heard s group lies * group.block)
     group.block
 
--- What is counted of a group and known of it. Parts are counted of the lead alone, where it is
--- known, and values where the beat is not known to be of kind 2, which counts none.
+-- What is counted of a group and known of it. Parts are counted of the lead alone, if it is known,
+-- and values if the beat is not known to be of kind 2, which counts none.
 pub record AreCounted (s : Sent) (group : Contents) : Type 0 where
   pub votes : AreVotes s group.intervals group.nums.leaders group.first group.block
       group.votes group.pointers
@@ -98,8 +98,8 @@ pub record AreCounted (s : Sent) (group : Contents) : Type 0 where
       (λ lies. least_above group.nums.faults (values_heard s lies group.first group.nums.nodes))
       group.least
 
--- All registers of a settled group are locked, those of its liars too; of any other one it is
--- counted and known what the liars leave.
+-- All registers of a settled group are locked, those of its liars too; of any other one, what the
+-- liars leave is counted and known.
 pub record Stands (s : Sent) (group : Contents) : Type 0 where
   pub room : HasRoom group
   pub within : group.first + group.nums.nodes ≤ length s.registers
@@ -114,13 +114,10 @@ pub record Stands (s : Sent) (group : Contents) : Type 0 where
 abbrev pub IsGroup : Group → Type 0
 IsGroup group = HasRoom (contents group)
 
-abbrev pub IsCounted : Sent → Group → Type 0
-IsCounted s group = AreCounted s (contents group)
-
 abbrev pub StandsFor : Sent → Group → Type 0
 StandsFor s group = Stands s (contents group)
 
--- the new register of a node of the group, from what it is told
+-- the new register of a node of the group, from what liars say to it
 abbrev pub register_heard : Sent → LevelNums → (first node : ℕ) → (lies : List State) → Reg
 register_heard s nums first node lies =
     register_after (block_nodes nums) (level_of nums) (register_of s node)
@@ -131,7 +128,7 @@ register_heard s nums first node lies =
 abbrev pub AreBelow : (modulus : ℕ) → List Reg → Type 0
 AreBelow modulus registers = All (λ r. IfSome r.a (λ a. a < modulus)) registers
 
--- lies have a register of the level, the value of which is below the modulus where it is finite
+-- lies have a register of the level, the value of which is below the modulus if it is finite
 abbrev pub AreLies : (height modulus : ℕ) → List State → Type 0
 AreLies height modulus lies =
     All (λ s. (height < length s.registers) × IfSome (register_at height s).a (λ a. a < modulus))

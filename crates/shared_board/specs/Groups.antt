@@ -17,8 +17,8 @@ pub record Group : Type 0 where
   pub block : ℕ
   pub first : ℕ
 
--- the groups of levels from a first node on: that of the top level, and behind it those of its
--- first block, those of its second one, and so on
+-- the groups of levels from a first node on: that of the top level, and after it those of its first
+-- block, those of its second one, and so on
 abbrev pub groups_of : List Level → (first : ℕ) → List Group
 groups_of [] first = []
 groups_of (level ∷ below) first =

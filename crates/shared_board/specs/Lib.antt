@@ -2,6 +2,5 @@ pub mod Senders
 pub mod Votes
 pub mod GroupVotes
 pub mod Sharing
-pub mod LieOrder
 pub mod Groups
 pub mod Boards

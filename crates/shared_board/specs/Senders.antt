@@ -63,9 +63,9 @@ module _ (s : Sent) where
   abbrev pub parts_of : (beat first count : ℕ) → List (Option ℕ)
   parts_of beat first count = numbers_of (part_of beat) first count
 
--- What a receiver is told: a state of each liar, in the order of the liars.
+-- What the liars say to a receiver: a state of each, in their order.
 module _ (s : Sent) (lies : List State) where
-  -- what liar u tells: its place among the lies is how many liars are below it
+  -- what liar u says: its place among the lies is how many liars are below it
   abbrev pub told_by : ℕ → State
   told_by u = state_of lies (liars_below s u)
 
@@ -94,7 +94,7 @@ module _ (s : Sent) (lies : List State) where
   abbrev pub values_heard : (first count : ℕ) → List (Option ℕ)
   values_heard first count = map value_heard (range_with_len first count)
 
--- a node that lies tells itself the register that it has
+-- a node that lies says to itself the register that it has
 abbrev pub TellsItself : (s : Sent) (lies : List State) (node : ℕ) → Type 0
 TellsItself s lies node =
     is_liar s node ≡ true → register_at s.height (told_by s lies node) ≡ register_of s node

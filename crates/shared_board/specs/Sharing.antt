@@ -1,5 +1,5 @@
--- What a node hears where the lies stand in the order of the liars, and what all receivers of a
--- round share: the configuration, and who lies.
+-- What a node hears if the lies stand in the order of the liars, and what all receivers of a round
+-- share: the configuration, and who lies.
 use Rattle.std.specs.Prelude.{◌≡◌, ℕ, List, length, map, true, not, if◌then◌else◌}
 use Rattle.std.specs.List.{filter, range_with_len}
 use Rattle.counting.specs.Places.{places}
@@ -13,7 +13,7 @@ use Rattle.counter_core.specs.Meanings.{cut}
 abbrev pub place_among : (faulty : List ℕ) (u : ℕ) → ℕ
 place_among faulty u = places (is_in faulty) u
 
--- what is heard of node u: its state, or where it lies what it tells
+-- what is heard of node u: its state, or if it lies what it says
 abbrev pub heard_at : (faulty : List ℕ) (lies config : List State) (u : ℕ) → State
 heard_at faulty lies config u =
     if is_in faulty u then state_of lies (place_among faulty u) else state_of config u
@@ -38,7 +38,7 @@ abbrev pub stands_for : Plan → (config : List State) (faulty : List ℕ) → S
 stands_for plan config faulty =
     record { plan = plan; faulty = faulty; states = map (cut (plan_depth plan)) config }
 
--- there is a lie for each liar, and a node that lies tells itself its own state
+-- there is a lie for each liar, and a node that lies says its own state to itself
 pub record Tells (shares : Shares) (node : ℕ) (lies : List State) : Type 0 where
   pub size : length lies ≡ length shares.faulty
   pub own : is_in shares.faulty node ≡ true

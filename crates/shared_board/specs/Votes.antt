@@ -1,4 +1,4 @@
--- The votes heard in stretches of nodes, and what of them is known whatever is told.
+-- The votes heard in stretches of nodes, and what of them is known whatever is said.
 use Rattle.std.specs.Prelude.{◌≡◌, ℕ, ◌+◌, ◌*◌, ◌/◌, ◌%◌, ◌<◌, ◌≤◌, List, length, map}
 use Rattle.std.specs.Prelude.{slice_index_or, All, IfSome, Option, Some, None, unwrap_or}
 use Rattle.std.specs.List.{range_with_len}
@@ -10,7 +10,7 @@ use Rattle.majority_votes.specs.declared.tally.Outlook.{Outlook}
 use Rattle.majority_votes.specs.declared.tally.Outlook.TheVariants as outlook
 use Rattle.shared_board.specs.Senders.{Sent, numbers_of, parts_of, IsTold, outputs_heard}
 
--- the number that most have, 0 where none has more than half, if it is known
+-- the number that most have, 0 if none has more than half, if it is known
 abbrev pub known_number : Outlook → Option ℕ
 known_number (outlook.Is majority) = Some (unwrap_or majority 0)
 known_number outlook.Open = None
@@ -20,7 +20,7 @@ abbrev pub pointer_in : (interval leaders output : ℕ) → ℕ
 pointer_in interval leaders output = output / interval % leaders
 
 module _ (s : Sent) (lies : List State) where
-  -- the number heard that most of n nodes from the first on have, 0 where there is none
+  -- the number heard that most of n nodes from the first on have, 0 if there is none
   abbrev pub most_heard : (reads : ℕ → ℕ) (first n : ℕ) → ℕ
   most_heard reads first n = majority_or_zero (map reads (outputs_heard s lies first n))
 
@@ -39,7 +39,7 @@ module _ (s : Sent) (lies : List State) where
       (map (λ i. block_vote (slice_index_or intervals i 0) leaders (first + i * n) n)
       (range_with_len 0 (length intervals)))
 
--- something that is heard is this, whatever is told; nothing is claimed of None
+-- something that is heard is this, whatever is said; nothing is claimed of None
 abbrev pub IsKnown : {X : Type 0} → Sent → (heard : List State → X) → Option X → Type 0
 IsKnown s heard known = IfSome known (λ x. (lies : List State) → IsTold s lies → heard lies ≡ x)
 
@@ -63,15 +63,15 @@ AreVotes s intervals leaders first n votes pointers =
     → IsVote s (slice_index_or intervals i 0) leaders (first + i * n) n
     (slice_index_or votes i None) (slice_index_or pointers i none)
 
--- where some votes are known, the lead is this, whatever the others are
+-- if some votes are known, the lead is this, whatever the others are
 abbrev pub IsLead : (votes : List (Option ℕ)) → (lead : Option ℕ) → Type 0
 IsLead votes lead = IfSome lead (λ x.
     (vote : ℕ → ℕ)
     → ((i : ℕ) → i < length votes → IfSome (slice_index_or votes i None) (λ known. vote i ≡ known))
     → majority_or_zero (map vote (range_with_len 0 (length votes))) ≡ x)
 
--- Where the lead is known, its part is known or the parts of its correct nodes are counted; else
--- those of all leaders' are.
+-- If the lead is known, its part is known or the parts of its correct nodes are counted; else those
+-- of all leaders' are.
 pub record IsBeat (s : Sent) (beat first n : ℕ) (lead part : Option ℕ) (parts : List Votes)
     : Type 0 where
   pub none : lead ≡ None → part ≡ None

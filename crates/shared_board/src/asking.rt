@@ -14,11 +14,11 @@ use crate::group::Group;
 use crate::hearing::Hearing;
 use crate::locks::is_locked_at;
 use crate::obeying::{is_king_open, is_test_open, locked_next, obey};
-use crate::polls::Poll;
+use crate::polls::SharedTally;
 use crate::readings::{Parts, Pointers};
 use crate::senders::Senders;
 use crate::sites::Site;
-use crate::stretches::Stretch;
+use crate::stretches::NodeRange;
 use majority_votes::Steps;
 use std::sync::ledger::Ledger;
 use sync_types::{NodeState, Reg};
@@ -39,8 +39,8 @@ fn places_of(votes: &[u64], vote: u64) -> usize
     places
 }
 
-/// The vote that more than half of the votes are, 0 where there is none. Half of the votes have no
-/// room for all of it, so it is looked for in the others.
+/// The vote that more than half of the votes are, 0 if there is none. It does not fit into half of
+/// the votes, so it is looked for in the others.
 fn most_of(votes: &[u64]) -> u64
     ensures { result ≡ majority_or_zero votes.now }
 {
@@ -58,7 +58,7 @@ fn hear_votes(
     hearing: &Hearing<'_>,
     site: &Site<'_>,
     votes: &[Option<u64>],
-    pointers: &[Poll],
+    pointers: &[SharedTally],
     heard: &mut [u64],
 )
     requires same { site.now.senders.now ≡ hearing.now.senders.now }
@@ -88,7 +88,7 @@ fn lead_heard(
     site: &Site<'_>,
     known: Option<u64>,
     votes: &[Option<u64>],
-    pointers: &[Poll],
+    pointers: &[SharedTally],
 ) -> u64
     requires same { site.now.senders.now ≡ hearing.now.senders.now }
     requires blocks { AreAsked site.now.senders.now site.now.intervals.now site.now.leaders
@@ -107,7 +107,7 @@ fn lead_heard(
 }
 
 /// The part of the beat heard of the lead, whose parts are counted.
-fn part_of_lead(hearing: &Hearing<'_>, site: &Site<'_>, lead: usize, parts: &[Poll]) -> u64
+fn part_of_lead(hearing: &Hearing<'_>, site: &Site<'_>, lead: usize, parts: &[SharedTally]) -> u64
     requires same { site.now.senders.now ≡ hearing.now.senders.now }
     requires lead { lead < site.now.leaders }
     requires stands { (none : Votes) → (slice_index_or parts.now lead none).values
@@ -123,7 +123,7 @@ fn part_of_lead(hearing: &Hearing<'_>, site: &Site<'_>, lead: usize, parts: &[Po
 }
 
 impl Group {
-    /// The new register of a node of the group, by what it is told. The group is as before
+    /// The new register of a node of the group, by what liars say to it. The group is as before
     /// afterwards. It takes at most three steps for each of the group's liars.
     pub fn register<G: Ledger>(
         &mut self,
@@ -161,8 +161,8 @@ impl Group {
         obey(&hearing, beat, own, least, &mut self.values, steps)
     }
 
-    /// The new register of every node of the group, whatever it is told, where all of the group's
-    /// registers are locked at one value. Where there is none, nothing is claimed.
+    /// The new register of every node of the group, whatever liars say to it, if all of the group's
+    /// registers are locked at one value. If there is none, nothing is claimed.
     pub fn common_register(&self) -> Option<Reg>
         requires { IsGroup self.now }
         ensures { IfSome result (λ register. (senders : Sent) (node : ℕ) (lies : List State)
@@ -202,8 +202,8 @@ impl Group {
         part_of_lead(hearing, &site, lead as usize, &self.parts)
     }
 
-    /// Whether the new register of a node of the group may hang on what it is told. Where it does
-    /// not, all lies leave one register, as long as a node that lies tells itself its own.
+    /// Whether the new register of a node of the group may hang on lies. If it does not, all lies
+    /// leave one register, as long as a node that lies says its own to itself.
     pub fn is_open(&self, senders: &Senders<'_>, node: usize) -> bool
         requires stands { StandsFor senders.now self.now }
         requires node { (self.now.first ≤ node) × (node < self.now.first + self.now.nums.nodes) }
@@ -217,7 +217,7 @@ impl Group {
             return false;
         }
         let nums = self.nums;
-        let group = Stretch {
+        let group = NodeRange {
             senders,
             first: self.first,
             count: nums.nodes as usize,

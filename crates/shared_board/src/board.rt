@@ -27,7 +27,7 @@ pub struct Board {
     before: Vec<u32>,
 }
 
-// Written out, so that what lets go of one calls this, and no more.
+// Written out, so that code that drops one has a single call.
 impl Drop for Board {
     fn drop(self) {
         let Board {
@@ -91,8 +91,8 @@ impl Board {
           states = map (cut self.old.depth) config.now.current;
         } }
     {
-        faulty.tell();
-        config.tell();
+        faulty.facts();
+        config.facts();
         take_liars(faulty, &mut self.liars, &mut self.marks, &mut self.before);
         fill(config, &mut self.registers, &mut self.outputs);
     }
@@ -136,7 +136,7 @@ impl Board {
 
     /// Tells a caller's proof that the ids of the liars rise and are those of nodes. It does
     /// nothing when it runs.
-    pub fn tell(&self)
+    pub fn facts(&self)
         ensures liars { AreLiars (length self.now.states) self.now.faulty }
         ensures most { length self.now.states ≤ 256 }
     {

@@ -6,17 +6,17 @@ ghost use Rattle.shared_board.specs.Senders.{correct_in, parts_of, values_of, va
 ghost use Rattle.shared_board.specs.Votes.{IsKnown, IsBeat, IsLead, AreVotes, AreAsked, HasVotesIn};
 ghost use Rattle.shared_board.specs.Votes.{HasRoomIn};
 
-use crate::polls::Poll;
+use crate::polls::SharedTally;
 use crate::readings::{Parts, Pointers};
 use crate::sites::Site;
-use crate::stretches::Stretch;
+use crate::stretches::NodeRange;
 use majority_votes::Steps;
 use std::sync::ledger::Ledger;
 
 /// Counts the pointers of the blocks, as far as they decide a vote.
 fn gather_votes<G: Ledger>(
     site: &Site<'_>,
-    pointers: &mut [Poll],
+    pointers: &mut [SharedTally],
     votes: &mut [Option<u64>],
     steps: &mut Steps<G>,
 )
@@ -29,7 +29,7 @@ fn gather_votes<G: Ledger>(
         site.now.first (length site.now.intervals.now * site.now.size)) }
 {
     for i in 0..site.intervals.len() {
-        let block = Stretch {
+        let block = NodeRange {
             senders: site.senders,
             first: site.start(i),
             count: site.size,
@@ -62,7 +62,7 @@ fn greater(one: usize, other: usize) -> usize
     if one < other { other } else { one }
 }
 
-/// The lead, where the votes that are known decide it.
+/// The lead, if the votes that are known decide it.
 fn known_lead(votes: &[Option<u64>]) -> Option<u64>
     ensures { IsLead votes.now result }
 {
@@ -81,11 +81,11 @@ fn known_lead(votes: &[Option<u64>]) -> Option<u64>
     if most + open <= half { Some(0) } else { None }
 }
 
-/// Counts the pointers of the blocks, as far as they decide a vote. The answer is the lead, where
-/// it is known.
+/// Counts the pointers of the blocks, as far as they decide a vote. The answer is the lead, if it
+/// is known.
 pub(crate) fn gather_lead<G: Ledger>(
     site: &Site<'_>,
-    pointers: &mut [Poll],
+    pointers: &mut [SharedTally],
     votes: &mut [Option<u64>],
     steps: &mut Steps<G>,
 ) -> Option<u64>
@@ -101,7 +101,7 @@ pub(crate) fn gather_lead<G: Ledger>(
 }
 
 /// Counts the parts of the correct nodes of each leader.
-fn gather_leaders<G: Ledger>(site: &Site<'_>, parts: &mut [Poll], steps: &mut Steps<G>)
+fn gather_leaders<G: Ledger>(site: &Site<'_>, parts: &mut [SharedTally], steps: &mut Steps<G>)
     requires { HasRoomIn site.now.leaders site.now.size parts.old }
     ensures parts { (b : ℕ) (none : Votes) → b < site.now.leaders
         → (slice_index_or parts.new b none).values ≡ parts_of site.now.senders.now site.now.beat
@@ -112,7 +112,7 @@ fn gather_leaders<G: Ledger>(site: &Site<'_>, parts: &mut [Poll], steps: &mut St
 {
     let reading = Parts { beat: site.beat };
     for b in 0..parts.len() {
-        let block = Stretch {
+        let block = NodeRange {
             senders: site.senders,
             first: site.start(b),
             count: site.size,
@@ -121,12 +121,12 @@ fn gather_leaders<G: Ledger>(site: &Site<'_>, parts: &mut [Poll], steps: &mut St
     }
 }
 
-/// Counts the parts of the lead, or of all leaders where the lead is not known. The answer is the
-/// beat, where it is known.
+/// Counts the parts of the lead, or of all leaders if the lead is not known. The answer is the
+/// beat, if it is known.
 pub(crate) fn gather_beat<G: Ledger>(
     site: &Site<'_>,
     lead: Option<u64>,
-    parts: &mut [Poll],
+    parts: &mut [SharedTally],
     steps: &mut Steps<G>,
 ) -> Option<u64>
     requires lead { IfSome lead (λ lead. lead < site.now.leaders) }
@@ -140,7 +140,7 @@ pub(crate) fn gather_beat<G: Ledger>(
     match lead {
         Some(lead) => {
             let lead = lead as usize;
-            let block = Stretch {
+            let block = NodeRange {
                 senders: site.senders,
                 first: site.start(lead),
                 count: site.size,
@@ -155,12 +155,12 @@ pub(crate) fn gather_beat<G: Ledger>(
 }
 
 /// Counts the values of a group, unless the beat is known and counts none. The answer is the least
-/// value that more than `faults` nodes have, where it is known.
+/// value that more than `faults` nodes have, if it is known.
 pub(crate) fn gather_least<G: Ledger>(
-    group: &Stretch<'_>,
+    group: &NodeRange<'_>,
     faults: usize,
     beat: Option<u64>,
-    values: &mut Poll,
+    values: &mut SharedTally,
     steps: &mut Steps<G>,
 ) -> Option<Option<u64>>
     requires { group.now.count ≤ values.old.capacity }

@@ -3,11 +3,11 @@ ghost use Rattle.shared_board.specs.Senders.{correct_in};
 ghost use Rattle.shared_board.specs.GroupVotes.{AreNumbers, IsGroup, StandsFor};
 
 use crate::gathering::{gather_beat, gather_lead, gather_least};
-use crate::polls::Poll;
+use crate::polls::SharedTally;
 use crate::rooms::{intervals, polls};
 use crate::senders::Senders;
 use crate::sites::Site;
-use crate::stretches::Stretch;
+use crate::stretches::NodeRange;
 use majority_votes::Steps;
 use plan_numbers::LevelNums;
 use std::alloc::Global;
@@ -15,7 +15,7 @@ use std::sync::ledger::Ledger;
 use sync_types::NoMemory;
 
 /// One group of a level: what is counted of its correct nodes, and what is known of it whatever its
-/// liars tell.
+/// liars say.
 #[derive(Drop)]
 pub struct Group {
     /// The numbers of its level.
@@ -28,15 +28,15 @@ pub struct Group {
     // The value at which its correct registers are locked, and whether all are.
     pub(crate) locked: Option<u64>,
     pub(crate) is_settled: bool,
-    // The vote of each block, the lead, the beat and the least value, where they are known.
+    // The vote of each block, the lead, the beat and the least value, if they are known.
     pub(crate) votes: Vec<Option<u64>>,
     pub(crate) lead: Option<u64>,
     pub(crate) beat: Option<u64>,
     pub(crate) least: Option<Option<u64>>,
     // The pointers of each block, the parts of each leader, and the values of all.
-    pub(crate) pointers: Vec<Poll>,
-    pub(crate) parts: Vec<Poll>,
-    pub(crate) values: Poll,
+    pub(crate) pointers: Vec<SharedTally>,
+    pub(crate) parts: Vec<SharedTally>,
+    pub(crate) values: SharedTally,
 }
 
 impl Group {
@@ -62,12 +62,12 @@ impl Group {
             least: None,
             pointers: polls(alloc, blocks, block)?,
             parts: polls(alloc, nums.leaders as usize, block)?,
-            values: Poll::new(alloc, nums.nodes as usize)?,
+            values: SharedTally::new(alloc, nums.nodes as usize)?,
         })
     }
 
     /// Counts the group's correct nodes, as far as something may hang on it, and finds what is
-    /// known whatever its liars tell: at most three steps for each correct node.
+    /// known whatever its liars say: at most three steps for each correct node.
     pub fn gather<G: Ledger>(&mut self, senders: &Senders<'_>, steps: &mut Steps<G>)
         requires group { IsGroup self.old }
         requires within { self.old.first + self.old.nums.nodes ≤ length senders.now.registers }
@@ -79,7 +79,7 @@ impl Group {
     {
         let nodes = self.nums.nodes as usize;
         let faults = self.nums.faults as usize;
-        let stretch = Stretch {
+        let stretch = NodeRange {
             senders,
             first: self.first,
             count: nodes,

@@ -7,13 +7,13 @@ ghost use Rattle.shared_board.specs.Votes.{IsMost, most_heard};
 ghost use Rattle.shared_board.specs.GroupVotes.{AreNumbers, AreBelow, AreLies};
 
 use crate::laying::Lies;
-use crate::polls::Poll;
+use crate::polls::SharedTally;
 use crate::readings::Reading;
 use crate::senders::Senders;
 use plan_numbers::LevelNums;
 use sync_types::NodeState;
 
-/// What a node of a group hears: the senders, and what the liars among them tell it.
+/// What a node of a group hears: the senders, and what the liars among them say to it.
 #[derive(Clone, Copy, Drop)]
 pub(crate) struct Hearing<'a> {
     pub senders: &'a Senders<'a>,
@@ -38,7 +38,7 @@ fn between<T>(items: &[T], from: usize, to: usize) -> &[T]
 }
 
 impl Hearing<'_> {
-    /// What the liars among `count` nodes from `first` on tell.
+    /// What the liars among `count` nodes from `first` on say.
     pub fn lies_in(&self, first: usize, count: usize) -> Lies<'_>
         requires { first + count ≤ length self.now.senders.now.registers }
         ensures height { result.height ≡ self.now.senders.now.height }
@@ -93,7 +93,7 @@ impl Hearing<'_> {
         known: Option<u64>,
         first: usize,
         count: usize,
-        poll: &Poll,
+        poll: &SharedTally,
     ) -> u64
         requires within { first + count ≤ length self.now.senders.now.registers }
         requires stands { IsMost self.now.senders.now (R.reads reading.now)

@@ -4,30 +4,19 @@ ghost use Rattle.counting.specs.Values.{count_of, majority_of, least_above};
 ghost use Rattle.sync_types.specs.States.{register_at};
 ghost use Rattle.construction.specs.Shown.{shown};
 
-use crate::polls::Poll;
+use crate::polls::SharedTally;
 use crate::readings::Reading;
+use counter_core::shown;
 use majority_votes::Steps;
 use std::sync::ledger::Ledger;
 use sync_types::NodeState;
 
-/// What liars tell a level that stands above `height` levels.
+/// What liars say to a level that stands above `height` levels.
 #[derive(Clone, Copy, Drop)]
 pub(crate) struct Lies<'a> {
     pub height: usize,
     pub lies: &'a [NodeState],
     ghost deep: { All (λ s. height < length s.registers) lies.now },
-}
-
-/// What a state shows to the level above so many levels.
-fn shown_to(height: usize, state: &NodeState) -> u64
-    requires { height ≤ length state.now.registers }
-    ensures { result ≡ shown height state.now }
-{
-    if height == 0 {
-        state.x()
-    } else {
-        state.reg(height - 1).a.unwrap_or(0)
-    }
 }
 
 impl Lies<'_> {
@@ -40,7 +29,7 @@ impl Lies<'_> {
     {
         let mut count = 0;
         for lie in self.lies {
-            if reading.of(shown_to(self.height, lie)) == number {
+            if reading.of(shown(self.height, lie)) == number {
                 count += 1;
             }
         }
@@ -49,7 +38,13 @@ impl Lies<'_> {
 
     /// Whether more than `half` places hold a number, of those that the poll has and those read of
     /// the lies.
-    fn is_above<R: Reading>(&self, reading: &R, number: u64, half: usize, poll: &Poll) -> bool
+    fn is_above<R: Reading>(
+        &self,
+        reading: &R,
+        number: u64,
+        half: usize,
+        poll: &SharedTally,
+    ) -> bool
         requires { length poll.now.values + length self.now.lies.now ≤ poll.now.capacity }
         ensures { let told = map (λ s. Some (R.reads reading.now (shown self.now.height s)))
             self.now.lies.now in
@@ -63,9 +58,9 @@ impl Lies<'_> {
         half < same + self.count_number(reading, number)
     }
 
-    /// The number that most have, of those that the poll has and those read of the lies; 0 where
-    /// there is none. Nothing is placed.
-    pub fn most<R: Reading>(&self, reading: &R, poll: &Poll) -> u64
+    /// The number that most have, of those that the poll has and those read of the lies; 0 if there
+    /// is none. Nothing is placed.
+    pub fn most<R: Reading>(&self, reading: &R, poll: &SharedTally) -> u64
         requires { length poll.now.values + length self.now.lies.now ≤ poll.now.capacity }
         ensures { let told = map (λ s. Some (R.reads reading.now (shown self.now.height s)))
             self.now.lies.now in
@@ -77,7 +72,7 @@ impl Lies<'_> {
             return most;
         }
         for lie in self.lies {
-            let number = reading.of(shown_to(self.height, lie));
+            let number = reading.of(shown(self.height, lie));
             if half == 0 {
                 return number;
             }
@@ -89,7 +84,7 @@ impl Lies<'_> {
     }
 
     /// Lays the values of the lies over those that a poll has.
-    fn lay_values<G: Ledger>(&self, poll: &mut Poll, steps: &mut Steps<G>)
+    fn lay_values<G: Ledger>(&self, poll: &mut SharedTally, steps: &mut Steps<G>)
         requires { length poll.old.values + length self.now.lies.now ≤ poll.old.capacity }
         ensures poll { poll.new ≡ record poll.old {
           values = poll.old.values
@@ -107,7 +102,7 @@ impl Lies<'_> {
     pub fn least<G: Ledger>(
         &self,
         faults: usize,
-        poll: &mut Poll,
+        poll: &mut SharedTally,
         steps: &mut Steps<G>,
     ) -> Option<u64>
         requires { length poll.old.values + length self.now.lies.now ≤ poll.old.capacity }
@@ -125,7 +120,7 @@ impl Lies<'_> {
 
     /// How many places hold a value, of the values in the poll and of those of the lies; None is
     /// infinity. Nothing is placed.
-    pub fn count(&self, value: Option<u64>, poll: &Poll) -> usize
+    pub fn count(&self, value: Option<u64>, poll: &SharedTally) -> usize
         requires { length poll.now.values + length self.now.lies.now ≤ poll.now.capacity }
         ensures { result ≡ count_of (poll.now.values
             ++ map (λ s. (register_at self.now.height s).a) self.now.lies.now) value }

@@ -35,7 +35,8 @@ fn copy_ids(faulty: &FaultSet, ids: &mut Vec<u32>)
     }
 }
 
-/// Marks the liars among the nodes, and counts for each node those below it, and behind these all.
+/// Marks the liars among the nodes, and counts for each node those below it, and after these all of
+/// them.
 fn mark(faulty: &FaultSet, marks: &mut Vec<bool>, before: &mut Vec<u32>)
     requires size { length before.old.items ≡ length marks.old.items + 1 }
     requires most { length marks.old.items ≤ 256 }
@@ -72,7 +73,7 @@ fn are_ids(ids: &[u32], faulty: &FaultSet) -> bool
     true
 }
 
-/// Takes the ids of a faulty set, and marks and counts the liars anew where they are others.
+/// Takes the ids of a faulty set, and marks and counts the liars anew if they are others.
 pub(crate) fn take_liars(
     faulty: &FaultSet,
     ids: &mut Vec<u32>,

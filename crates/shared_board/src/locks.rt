@@ -4,13 +4,13 @@ ghost use Rattle.construction.specs.PhaseKing.{locked_at};
 ghost use Rattle.phase_king.specs.Groups.{IsLockedGroup};
 ghost use Rattle.shared_board.specs.Senders.{is_liar, register_of, correct_in, values_of};
 
-use crate::stretches::Stretch;
+use crate::stretches::NodeRange;
 use sync_types::Reg;
 
 /// How a group is locked.
 #[derive(Clone, Copy)]
 pub(crate) struct Lock {
-    /// The value at which its correct registers are locked, where it bears its liars.
+    /// The value at which its correct registers are locked, if it tolerates its liars.
     pub value: Option<u64>,
     /// Whether those of its liars are locked there too.
     pub is_settled: bool,
@@ -23,7 +23,7 @@ pub(crate) fn is_locked_at(register: Reg, value: u64) -> bool
     register.a == Some(value) && register.d
 }
 
-impl Stretch<'_> {
+impl NodeRange<'_> {
     /// Whether the registers of all its nodes are locked at a value.
     fn all_locked(&self, value: u64) -> bool
         ensures { IsTrue result ↔ ((u : ℕ) → self.now.first ≤ u
@@ -52,7 +52,7 @@ impl Stretch<'_> {
         true
     }
 
-    /// The value of its first correct node's register; None where it is infinite, or there is none.
+    /// The value of its first correct node's register; None if it is infinite, or there is none.
     fn first_value(&self) -> Option<u64>
         ensures { result ≡ slice_index_or
             (values_of self.now.senders.now self.now.first self.now.count) 0 None }
@@ -65,7 +65,7 @@ impl Stretch<'_> {
         None
     }
 
-    /// The value at which the registers of its correct nodes are locked; None where there is none.
+    /// The value at which the registers of its correct nodes are locked; None if there is none.
     fn correct_value(&self) -> Option<u64>
         ensures some { IfSome result (λ value. (u : ℕ) → self.now.first ≤ u
             → u < self.now.first + self.now.count → is_liar self.now.senders.now u ≡ false
@@ -87,7 +87,7 @@ impl Stretch<'_> {
         }
     }
 
-    /// How it is locked, as a group that bears so many liars.
+    /// How it is locked, as a group that tolerates so many liars.
     pub fn lock(&self, faults: usize) -> Lock
         requires { 3 * faults < self.now.count }
         ensures value { IfSome result.value (IsLockedGroup self.now.first self.now.count faults

@@ -10,7 +10,7 @@ ghost use Rattle.shared_board.specs.GroupVotes.{AreNumbers};
 
 use crate::hearing::Hearing;
 use crate::laying::Lies;
-use crate::polls::Poll;
+use crate::polls::SharedTally;
 use crate::senders::Senders;
 use majority_votes::Steps;
 use phase_king::king_step;
@@ -30,8 +30,8 @@ pub(crate) fn locked_next(value: u64, modulus: u64) -> Reg
     }
 }
 
-/// Whether a register may hang on what its king tells: not where it is locked, where the king is
-/// correct, or where it is that of the king.
+/// Whether a register may hang on what its king says: not if it is locked, if the king is correct,
+/// or if it is that of the king.
 pub(crate) fn is_king_open(senders: &Senders<'_>, own: Reg, king: usize, node: usize) -> bool
     requires { king < length senders.now.registers }
     ensures { result ≡ false → ((value : ℕ) × (own ≡ locked_at value))
@@ -63,7 +63,7 @@ fn least_of<G: Ledger>(
     lies: &Lies<'_>,
     faults: usize,
     known: Option<Option<u64>>,
-    values: &mut Poll,
+    values: &mut SharedTally,
     steps: &mut Steps<G>,
 ) -> Option<u64>
     requires room { length values.old.values + length lies.now.lies.now ≤ values.old.capacity }
@@ -92,8 +92,8 @@ struct Node<'a> {
 
 impl Node<'_> {
     /// Its register after the instruction of kind 0: an infinite value stays so, and a finite one
-    /// stays where enough have it.
-    fn obey_zeroth(&self, lies: &Lies<'_>, values: &Poll) -> Reg
+    /// stays if enough have it.
+    fn obey_zeroth(&self, lies: &Lies<'_>, values: &SharedTally) -> Reg
         requires { length values.now.values + length lies.now.lies.now ≤ values.now.capacity }
         ensures { let heard = values.now.values
             ++ map (λ s. (register_at lies.now.height s).a) lies.now.lies.now in
@@ -128,7 +128,7 @@ impl Node<'_> {
         &self,
         least: Option<Option<u64>>,
         lies: &Lies<'_>,
-        values: &mut Poll,
+        values: &mut SharedTally,
         steps: &mut Steps<G>,
     ) -> Reg
         requires room { length values.old.values + length lies.now.lies.now ≤ values.old.capacity }
@@ -170,7 +170,7 @@ pub(crate) fn obey<G: Ledger>(
     beat: u64,
     own: Reg,
     least: Option<Option<u64>>,
-    values: &mut Poll,
+    values: &mut SharedTally,
     steps: &mut Steps<G>,
 ) -> Reg
     requires beat { beat < hearing.now.nums.now.beat }

@@ -11,11 +11,11 @@ use sync_types::NoMemory;
 
 /// A tally that all receivers of a round share. A value comes into it by a step alone.
 #[derive(Drop)]
-pub(crate) struct Poll {
+pub(crate) struct SharedTally {
     tally: Tally,
 }
 
-impl Model for Poll {
+impl Model for SharedTally {
     ghost use Rattle.majority_votes.specs.Votes.{Votes};
 
     ghost Value = { Votes };
@@ -23,13 +23,13 @@ impl Model for Poll {
     ghost view = { λ p. p.tally };
 }
 
-impl Poll {
+impl SharedTally {
     /// One without values, with room for so many.
-    pub fn new(alloc: Global, capacity: usize) -> Result<Poll, NoMemory>
+    pub fn new(alloc: Global, capacity: usize) -> Result<SharedTally, NoMemory>
         ensures { IfOk result (λ p. p ≡ record { values = []; capacity = capacity }) }
     {
         let tally = Tally::new(alloc, capacity).map_err(|_| NoMemory)?;
-        Ok(Poll { tally })
+        Ok(SharedTally { tally })
     }
 
     /// How many values there is room for.
@@ -71,7 +71,7 @@ impl Poll {
         self.tally.cut(len);
     }
 
-    /// The number that more than half of the places hold once `more` values have come, where it is
+    /// The number that more than half of the places hold once `more` values have come, if it is
     /// known.
     pub fn majority_with(&self, more: usize) -> Outlook
         requires { length self.now.values + more ≤ self.now.capacity }
@@ -81,7 +81,7 @@ impl Poll {
     }
 
     /// Whether the least number that more than `f` places hold is sure to stay once `more` values
-    /// have come. Where the answer is false, nothing is known.
+    /// have come. If the answer is false, nothing is known.
     pub fn is_least_fixed(&self, f: usize, more: usize) -> bool
         ensures { result ≡ true
             → LeastStays f more self.now.values (least_above f self.now.values) }

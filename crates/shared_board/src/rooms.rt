@@ -4,18 +4,22 @@ ghost use Rattle.construction.specs.Plans.{interval_of};
 ghost use Rattle.shared_board.specs.Votes.{HasRoomIn};
 ghost use Rattle.shared_board.specs.GroupVotes.{AreNumbers};
 
-use crate::polls::Poll;
+use crate::polls::SharedTally;
 use plan_numbers::LevelNums;
 use std::alloc::Global;
 use sync_types::NoMemory;
 
 /// So many polls, each with room for `capacity` values.
-pub(crate) fn polls(alloc: Global, count: usize, capacity: usize) -> Result<Vec<Poll>, NoMemory>
+pub(crate) fn polls(
+    alloc: Global,
+    count: usize,
+    capacity: usize,
+) -> Result<Vec<SharedTally>, NoMemory>
     ensures { IfOk result (λ ps. HasRoomIn count capacity ps.items) }
 {
     let mut polls = Vec::with_capacity(alloc, count)?;
     for _ in 0..count {
-        polls.push(Poll::new(alloc, capacity)?).unwrap();
+        polls.push(SharedTally::new(alloc, capacity)?).unwrap();
     }
     Ok(polls)
 }

@@ -12,7 +12,7 @@ pub struct Senders<'a> {
     outputs: &'a [u64],
     registers: &'a [Reg],
     liars: &'a [bool],
-    // How many liars there are below each node, and behind them how many there are.
+    // How many liars there are below each node, and after them how many there are.
     before: &'a [u32],
 }
 
@@ -33,7 +33,7 @@ impl<'a> Model for Senders<'a> {
 
 impl<'a> Senders<'a> {
     /// The nodes as a level sees them that stands above `height` levels. `before` has for each node
-    /// how many liars there are below it, and behind that how many there are in all.
+    /// how many liars there are below it, and after that how many there are in all.
     pub fn new(
         height: usize,
         outputs: &'a [u64],
@@ -98,7 +98,7 @@ impl<'a> Senders<'a> {
         self.registers.len()
     }
 
-    /// How many liars there are below node `u`, or among all nodes where `u` is behind the last.
+    /// How many liars there are below node `u`, or among all nodes if `u` is after the last.
     pub fn liars_below(&self, u: usize) -> usize
         requires { u ≤ length self.now.registers }
         ensures { result ≡ liars_below self.now u }

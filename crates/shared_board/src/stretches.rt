@@ -4,7 +4,7 @@ ghost use Rattle.shared_board.specs.Senders.{is_liar, output_of, correct_in, lia
 ghost use Rattle.shared_board.specs.Senders.{numbers_of};
 ghost use Rattle.shared_board.specs.Votes.{known_number, IsMost};
 
-use crate::polls::Poll;
+use crate::polls::SharedTally;
 use crate::readings::Reading;
 use crate::senders::Senders;
 use majority_votes::{Outlook, Steps};
@@ -12,14 +12,14 @@ use std::sync::ledger::Ledger;
 
 /// So many nodes, from the first on.
 #[derive(Clone, Copy, Drop)]
-pub(crate) struct Stretch<'a> {
+pub(crate) struct NodeRange<'a> {
     pub senders: &'a Senders<'a>,
     pub first: usize,
     pub count: usize,
     ghost within: { first + count ≤ length senders.now.registers },
 }
 
-/// What is known of a number that most have, or 0 where there is none.
+/// What is known of a number that most have, or 0 if there is none.
 pub(crate) fn known_number(outlook: Outlook) -> Option<u64>
     ensures { result ≡ known_number outlook }
 {
@@ -29,8 +29,8 @@ pub(crate) fn known_number(outlook: Outlook) -> Option<u64>
     }
 }
 
-impl Stretch<'_> {
-    /// The place behind its last node.
+impl NodeRange<'_> {
+    /// The place after its last node.
     pub fn end(&self) -> usize
         ensures { result ≡ self.now.first + self.now.count }
     {
@@ -54,12 +54,12 @@ impl Stretch<'_> {
         self.senders.liars_below(self.end()) - self.senders.liars_below(self.first)
     }
 
-    /// Counts what is read of a node, where it is correct.
+    /// Counts what is read of a node, if it is correct.
     fn gather_number<R: Reading, G: Ledger>(
         &self,
         reading: &R,
         u: usize,
-        poll: &mut Poll,
+        poll: &mut SharedTally,
         steps: &mut Steps<G>,
     )
         requires within { u < length self.now.senders.now.registers }
@@ -79,7 +79,7 @@ impl Stretch<'_> {
     pub fn gather_numbers<R: Reading, G: Ledger>(
         &self,
         reading: &R,
-        poll: &mut Poll,
+        poll: &mut SharedTally,
         steps: &mut Steps<G>,
     )
         requires { self.now.count ≤ poll.old.capacity }
@@ -124,12 +124,12 @@ impl Stretch<'_> {
     }
 
     /// Counts what is read of its correct nodes, as far as the liars may decide what most have.
-    /// Else that is known. Nothing is counted where all correct nodes show one number, and they
-    /// are more than the liars.
+    /// Else that is known. Nothing is counted if all correct nodes show one number, and they are
+    /// more than the liars.
     pub fn gather_most<R: Reading, G: Ledger>(
         &self,
         reading: &R,
-        poll: &mut Poll,
+        poll: &mut SharedTally,
         steps: &mut Steps<G>,
     ) -> Option<u64>
         requires { self.now.count ≤ poll.old.capacity }
@@ -152,8 +152,8 @@ impl Stretch<'_> {
         known_number(poll.majority_with(self.liars()))
     }
 
-    /// Counts the value of a node's register, where it is correct.
-    fn gather_value<G: Ledger>(&self, u: usize, poll: &mut Poll, steps: &mut Steps<G>)
+    /// Counts the value of a node's register, if it is correct.
+    fn gather_value<G: Ledger>(&self, u: usize, poll: &mut SharedTally, steps: &mut Steps<G>)
         requires within { u < length self.now.senders.now.registers }
         requires room { length poll.old.values < poll.old.capacity }
         ensures poll { poll.new ≡ record poll.old {
@@ -168,7 +168,7 @@ impl Stretch<'_> {
     }
 
     /// Counts the values of its correct nodes' registers.
-    pub fn gather_values<G: Ledger>(&self, poll: &mut Poll, steps: &mut Steps<G>)
+    pub fn gather_values<G: Ledger>(&self, poll: &mut SharedTally, steps: &mut Steps<G>)
         requires { self.now.count ≤ poll.old.capacity }
         ensures poll { poll.new ≡ record poll.old {
           values

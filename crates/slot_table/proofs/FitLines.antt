@@ -12,14 +12,14 @@ use Rattle.std.proofs.lemmas.List.{length_push, get_or_append_left, get_or_at}
 use Rattle.std.proofs.lemmas.List.Elements.{All-push, All-nil}
 use Rattle.texts.specs.Lines.{words_of}
 use Rattle.texts.specs.Shapes.{numbers_after}
-use Rattle.texts.specs.Parts.{Next, goes, ends, refuses}
-use Rattle.texts.proofs.Parts.{After, skips_keep, part_keeps}
+use Rattle.texts.specs.Parts.{Next, goes, ends, refuses, goes_on}
+use Rattle.texts.proofs.Parts.{After, goes_on_keeps, skipping_keeps}
 use Rattle.sync_types.specs.declared.answers.Rule.{Rule}
 use Rattle.sync_types.specs.declared.answers.Rule.TheVariants.{Form, Limit, Node, Range, Overlap}
 use Rattle.construction.specs.Plans.{Plan, plan_nodes, plan_modulus}
 use Rattle.slot_table.specs.declared.lines.SlotLine.{SlotLine}
 use Rattle.slot_table.specs.Tables.{covers, meets, AreApart}
-use Rattle.slot_table.specs.SlotPart.{SlotsSoFar, no_lines, line_tested, line_in, goes_with}
+use Rattle.slot_table.specs.SlotPart.{SlotsSoFar, no_lines, line_tested, line_in, with_line}
 use Rattle.slot_table.specs.SlotPart.{slots_step, part_for, part_of, IsFor, IsTable, AreFor}
 
 -- ---- a line that meets no other one
@@ -101,7 +101,7 @@ record FitSoFar (nodes modulus : ℕ) (s : SlotsSoFar) : Type 0 where
   each : All (IsFor nodes modulus) s.lines
   apart : AreApart s.lines
 
--- a line that may be put behind the others
+-- a line that may be put after the others
 record IsOneMore (s : SlotsSoFar) (line : SlotLine) : Type 0 where
   room : length s.lines < 256
   right : IsFor s.nodes s.modulus line
@@ -150,10 +150,9 @@ module _ (nodes modulus : ℕ) where
   abbrev Goes : Next SlotsSoFar (List SlotLine) Rule → Type 0
   Goes next = After (FitSoFar nodes modulus) (IsTable nodes modulus) next
 
-  with_line : (s : SlotsSoFar) (line : Result SlotLine Rule) → FitSoFar nodes modulus s
-      → IfOk line (IsOneMore s) → Goes (goes_with s line)
-  with_line s (Err rule) fit one = tt
-  with_line s (Ok line) fit one = record {
+  one_more : (s : SlotsSoFar) → FitSoFar nodes modulus s → (line : SlotLine) → IsOneMore s line
+      → FitSoFar nodes modulus (with_line s line)
+  one_more s fit line one = record {
     same_nodes = fit.same_nodes;
     same_modulus = fit.same_modulus;
     many = let room = one.room in omega (arith, length_push s.lines line, room);
@@ -176,14 +175,17 @@ module _ (nodes modulus : ℕ) where
       }
 
   ended : (s : SlotsSoFar) (is : Bool) (line : List ℕ) → FitSoFar nodes modulus s
-      → Goes (if is then ends s.lines else goes_with s (line_in s line))
+      → Goes (if is then ends s.lines else goes_on (with_line s) (line_in s line))
   ended s true line fit = record { many = fit.many; each = fit.each; apart = fit.apart }
   ended s false line fit =
-      with_line s (line_in s line) fit (tested s (numbers_after (codes "slot") 3 (words_of line)))
+      goes_on_keeps (FitSoFar nodes modulus) (IsTable nodes modulus) (with_line s) (IsOneMore s)
+      (line_in s line) (tested s (numbers_after (codes "slot") 3 (words_of line)))
+      (one_more s fit)
 
   stepped : (s : SlotsSoFar) (line : List ℕ) (begun : Bool) → FitSoFar nodes modulus s
       → Goes (if begun
-      then (if bytes_eq line (codes "end") then ends s.lines else goes_with s (line_in s line))
+      then (if bytes_eq line (codes "end") then ends s.lines
+      else goes_on (with_line s) (line_in s line))
       else (if bytes_eq line (codes "slots 1") then goes (record s { begun = true })
       else refuses Form))
   stepped s line true fit = ended s (bytes_eq line (codes "end")) line fit
@@ -202,9 +204,8 @@ module _ (nodes modulus : ℕ) where
 pub tables_fit : (nodes modulus number : ℕ) (lines : List (List ℕ))
     → IfOk (part_for nodes modulus number lines) (λ found. IsTable nodes modulus found.value)
 tables_fit nodes modulus number lines =
-    part_keeps _ Form (FitSoFar nodes modulus) (IsTable nodes modulus)
-    (λ s line fit. skips_keep slots_step Form (FitSoFar nodes modulus) (IsTable nodes modulus) s
-    line fit (stepped nodes modulus s line s.begun fit))
+    skipping_keeps slots_step Form (FitSoFar nodes modulus) (IsTable nodes modulus)
+    (λ s line fit. stepped nodes modulus s line s.begun fit)
     lines (no_lines nodes modulus) 0 number (begins nodes modulus)
 
 -- what is read for a plan is one for it

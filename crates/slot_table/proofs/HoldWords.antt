@@ -1,4 +1,4 @@
--- A word is 1 exactly where its node holds.
+-- A word is 1 exactly if its node holds.
 use Rattle.std.proofs.Common.{◌≡◌, ℕ, Bool, true, false, cond, get_or, List, Option, Some, None}
 use Rattle.std.proofs.Common.{refl, sym, ap, ◌∙◌, arith}
 use Rattle.std.specs.Prelude.{nat_eq, codes}
@@ -42,7 +42,8 @@ module _ (lines : List SlotLine) (output v : ℕ) where
       ∙ ap (λ b. cond b (codes " 1") (codes " .")) (eq-eqb v v refl)
 
   holds_by_word : cond tested (codes " 1") (codes " .") ≡ codes " 1" → Holds lines v output
-  holds_by_word is = holder_is_one lines v output (is_holder (holder_of lines output) v tested refl is)
+  holds_by_word is = holder_is_one lines v output
+      (is_holder (holder_of lines output) v tested refl is)
 
   dot_by : (b : Bool) → tested ≡ b → (Holds lines v output → ⊥)
       → cond b (codes " 1") (codes " .") ≡ codes " ."
@@ -53,7 +54,8 @@ pub words_are_exact : WordsAreExact
 words_are_exact lines apart output v = record {
   one = (
     holds_by_word lines output v,
-    λ h. word_of_holder lines output v (holder_of lines output) (holder_holds lines apart v output h),
+    λ h. word_of_holder lines output v (holder_of lines output)
+        (holder_holds lines apart v output h),
   );
   dot = dot_by lines output v _ refl;
 }

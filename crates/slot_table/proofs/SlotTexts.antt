@@ -1,55 +1,34 @@
 -- The text of a slot table is read as this table.
 use Rattle.std.proofs.Common.{◌≡◌, ℕ, ◌+◌, ◌^◌, ◌<◌, ◌≤◌, inl, inr, Bool, true, false, List, []}
-use Rattle.std.proofs.Common.{◌∷◌}
-use Rattle.std.proofs.Common.{◌++◌, length, map, get_or, Option, Some, Result, Ok, refl}
-use Rattle.std.proofs.Common.{sym, ap, subst, ◌∙◌, append_assoc, arith}
+use Rattle.std.proofs.Common.{◌∷◌, ◌++◌, length, map, get_or, Option, Some, Result, Ok, refl, ap}
+use Rattle.std.proofs.Common.{subst, ◌∙◌, arith}
 use Rattle.std.specs.Prelude.{codes, decimal, ◌&&◌, nat_le}
 use Rattle.std.specs.List.{list_any}
 use Rattle.std.proofs.lemmas.Bool.{and_parts, leb-true, le-leb, lt-leb, le-ltb, cases_lt}
-use Rattle.std.proofs.lemmas.List.{append-nil, length-append, get_or_append_left}
-use Rattle.std.proofs.lemmas.List.{get_or-append-add}
+use Rattle.std.proofs.lemmas.List.{length-append, get_or_append_left, get_or-append-add}
 use Rattle.std.proofs.lemmas.List.Folds.{list_any_none}
 use Rattle.std.proofs.lemmas.List.Elements.{All-get_or, All-from_get_or}
-use Rattle.std.proofs.lemmas.Fmt.{length-decimal-le}
-use Rattle.texts.specs.Numbers.{number_of}
 use Rattle.texts.specs.Words.{text_of}
-use Rattle.texts.specs.Lines.{lines_of, words_of}
-use Rattle.texts.specs.Shapes.{numbers_after}
-use Rattle.texts.specs.Parts.{goes, with_skips, Found, At, part_from}
-use Rattle.texts.proofs.NumberWords.{printed_is_read}
-use Rattle.texts.proofs.Printed.{IsPlain, ArePlain, spaced_length, decimal_is_plain, counts}
-use Rattle.texts.proofs.Printed.{words_joined, goes_behind, ends_there}
+use Rattle.texts.specs.Lines.{lines_of}
+use Rattle.texts.specs.Parts.{goes, goes_on, with_skips, Found, At, part_from}
+use Rattle.texts.proofs.ItemLines.{one_plain, text_more, items_read}
+use Rattle.texts.proofs.NumberLines.{AreShort, numbers_short, line_plain, numbers_back}
+use Rattle.texts.proofs.Printed.{IsPlain, spaced_length, counts, goes_behind}
 use Rattle.sync_types.specs.declared.answers.Rule.{Rule}
 use Rattle.sync_types.specs.declared.answers.Rule.TheVariants.{Form}
 use Rattle.construction.specs.Plans.{plan_nodes, plan_modulus}
 use Rattle.plan_laws.proofs.PlanCounter.{plan_sizes}
 use Rattle.slot_table.specs.declared.lines.SlotLine.{SlotLine}
 use Rattle.slot_table.specs.Tables.{covers, meets}
-use Rattle.slot_table.specs.SlotPart.{SlotsSoFar, no_lines, line_tested, goes_with}
-use Rattle.slot_table.specs.SlotPart.{slots_step, IsFor, IsTable}
+use Rattle.slot_table.specs.SlotPart.{SlotsSoFar, no_lines, line_tested, with_line, slots_step}
+use Rattle.slot_table.specs.SlotPart.{IsFor, IsTable}
 use Rattle.slot_table.specs.SlotTexts.{slot_text, TableTextIsRead, SlotTextIsRead}
-
--- a number of a line may be printed, in 15 digits at most, and is read
-small_plain : (n : ℕ) → n ≤ 2 ^ 40 → IsPlain (decimal n)
-small_plain n le = decimal_is_plain n (omega arith)
-
-small_short : (n : ℕ) → n ≤ 2 ^ 40 → length (decimal n) ≤ 15
-small_short n le = length-decimal-le 15 n (omega arith) (omega arith) (omega arith)
-
-small_read : (n : ℕ) → n ≤ 2 ^ 40 → number_of (decimal n) ≡ Some n
-small_read n le = printed_is_read n (omega arith)
 
 slots_plain : IsPlain (codes "slots")
 slots_plain = record { some = omega arith; above = refl }
 
 slot_plain : IsPlain (codes "slot")
 slot_plain = record { some = omega arith; above = refl }
-
-one_plain : IsPlain (codes "1")
-one_plain = record { some = omega arith; above = refl }
-
-end_plain : IsPlain (codes "end")
-end_plain = record { some = omega arith; above = refl }
 
 -- two lines that meet have an output in both
 both_cover : (output a b : ℕ) (line : SlotLine) → a ≤ output → output ≤ b → line.first ≤ output
@@ -95,47 +74,21 @@ module _ (nodes modulus : ℕ) (few : nodes ≤ 2 ^ 40) (low : modulus ≤ 2 ^ 4
         (All-get_or (IsFor nodes modulus) all (length done) line
         (omega (arith, long)) are.each)
 
-    node_small : line.node ≤ 2 ^ 40
-    node_small = let lt = is_for.node in omega (arith, few, lt)
+    -- the numbers of its line
+    abbrev numbers : List ℕ
+    numbers = line.node ∷ line.first ∷ line.last ∷ []
 
-    last_small : line.last ≤ 2 ^ 40
-    last_small = let lt = is_for.output in omega (arith, low, lt)
+    short : AreShort numbers
+    short =
+        let node = is_for.node in
+        let order = is_for.order in
+        let output = is_for.output in (
+          omega (arith, few, node),
+          (omega (arith, low, order, output), (omega (arith, low, output), tt)),
+        )
 
-    first_small : line.first ≤ 2 ^ 40
-    first_small = let le = is_for.order in omega (arith, le, last_small)
-
-    abbrev numbers : List (List ℕ)
-    numbers = decimal line.node ∷ decimal line.first ∷ decimal line.last ∷ []
-
-    plain : ArePlain (codes "slot" ∷ numbers)
-    plain = (
-      slot_plain,
-      (
-        small_plain line.node node_small,
-        (
-          small_plain line.first first_small,
-          (small_plain line.last last_small, tt),
-        ),
-      ),
-    )
-
-    room : spaced_length (codes "slot" ∷ numbers) ≤ 4096
-    room = omega (
-      arith,
-      small_short line.node node_small,
-      small_short line.first first_small,
-      small_short line.last last_small,
-    )
-
-    numbers_are : numbers_after (codes "slot") 3 (words_of (slot_text line))
-        ≡ Some (line.node ∷ line.first ∷ line.last ∷ [])
-    numbers_are =
-        ap (numbers_after (codes "slot") 3) (words_joined (codes "slot") numbers plain)
-        ∙ rw (
-          small_read line.node node_small,
-          small_read line.first first_small,
-          small_read line.last last_small,
-        ) refl
+    room : spaced_length (codes "slot" ∷ map decimal numbers) ≤ 4096
+    room = omega (arith, numbers_short numbers short)
 
     -- an earlier line and this one have no output in common
     never_both : (i output : ℕ) → i < length done → covers output (get_or done i line) ≡ true
@@ -198,66 +151,42 @@ module _ (nodes modulus : ℕ) (few : nodes ≤ 2 ^ 40) (low : modulus ≤ 2 ^ 4
     steps : slots_step (with_lines done) (slot_text line)
         ≡ goes (with_lines (done ++ line ∷ []))
     steps =
-        ap (λ (ns : Option (List ℕ)). goes_with (with_lines done)
-        (line_tested (with_lines done) ns)) numbers_are
-        ∙ ap (goes_with (with_lines done)) tested
+        ap (λ (ns : Option (List ℕ)). goes_on (with_line (with_lines done))
+        (line_tested (with_lines done) ns)) (numbers_back (codes "slot") slot_plain numbers short)
+        ∙ ap (goes_on (with_line (with_lines done))) tested
 
     line_read : (taken number : ℕ) (rest : List ℕ)
         → read_on (with_lines done) taken number (slot_text line ++ 10 ∷ rest)
         ≡ read_on (with_lines (done ++ line ∷ [])) (taken + 1) (number + 1) rest
     line_read taken number rest =
-        goes_behind slots_step Form (codes "slot") numbers rest plain room
+        goes_behind slots_step Form (codes "slot") (map decimal numbers) rest
+        (line_plain (codes "slot") slot_plain numbers short) room
         (counts (slot_text line) (omega arith) refl) (with_lines done) taken number
         (with_lines (done ++ line ∷ [])) steps
 
-  -- one line in front of more
-  text_more : (line : List ℕ) (lines : List (List ℕ)) (rest : List ℕ)
-      → text_of (line ∷ lines) ++ rest ≡ line ++ 10 ∷ (text_of lines ++ rest)
-  text_more line lines rest = simp append_assoc
-
-  end_read : (lines : List SlotLine) (taken number : ℕ) (rest : List ℕ)
-      → read_on (with_lines lines) taken number (text_of (codes "end" ∷ []) ++ rest)
-      ≡ Ok (record { value = lines; taken = taken + 1; behind = lines_of rest })
-  end_read lines taken number rest =
-      ap (read_on (with_lines lines) taken number) (text_more (codes "end") [] rest)
-      ∙ ends_there slots_step Form (codes "end") [] rest (end_plain, tt) (omega arith) refl
-      (with_lines lines) taken number lines refl
-
-  lines_read : (done more : List SlotLine) (taken number : ℕ) (rest : List ℕ)
-      → IsTable nodes modulus (done ++ more)
-      → read_on (with_lines done) taken number
-      (text_of (map slot_text more ++ codes "end" ∷ []) ++ rest)
+  lines_read : (lines : List SlotLine) (number : ℕ) (rest : List ℕ) → IsTable nodes modulus lines
+      → read_on (with_lines []) 1 number
+      (text_of (map slot_text lines ++ codes "end" ∷ []) ++ rest)
       ≡ Ok (record {
-        value = done ++ more;
-        taken = taken + (length more + 1);
+        value = lines;
+        taken = 1 + (length lines + 1);
         behind = lines_of rest;
       })
-  lines_read done [] taken number rest are =
-      let none : done ++ [] ≡ done = append-nil done in
-      end_read done taken number rest
-      ∙ rw none refl
-  lines_read done (line ∷ more) taken number rest are =
-      let ended = map slot_text more ++ codes "end" ∷ [] in
-      let same : (done ++ line ∷ []) ++ more ≡ done ++ line ∷ more =
-      append_assoc done (line ∷ []) more in
-      let count : taken + 1 + (length more + 1) ≡ taken + (length (line ∷ more) + 1) =
-      omega arith in
-      ap (read_on (with_lines done) taken number) (text_more (slot_text line) ended rest)
-      ∙ line_read done more line are taken number (text_of ended ++ rest)
-      ∙ lines_read (done ++ line ∷ []) more (taken + 1) (number + 1) rest
-      (subst (IsTable nodes modulus) (sym same) are)
-      ∙ rw (same, count) refl
+  lines_read lines number rest are =
+      items_read slots_step Form with_lines (λ lines. lines) (λ n. slot_text)
+      (λ n lines. map slot_text lines) (λ n. refl) (λ n line more. refl) (IsTable nodes modulus)
+      (λ done more line are. line_read done more line are) (λ lines are. refl) [] lines 1 number
+      rest are
 
 pub table_text_is_read : TableTextIsRead
 table_text_is_read nodes modulus few low lines are number rest =
     let behind = map slot_text lines ++ codes "end" ∷ [] in
-    let count : 0 + 1 + (length lines + 1) ≡ length lines + 2 = omega arith in
-    ap (read_on (no_lines nodes modulus) 0 number)
-    (text_more nodes modulus few low (codes "slots 1") behind rest)
+    let count : 1 + (length lines + 1) ≡ length lines + 2 = omega arith in
+    ap (read_on (no_lines nodes modulus) 0 number) (text_more (codes "slots 1") behind rest)
     ∙ goes_behind slots_step Form (codes "slots") (codes "1" ∷ []) (text_of behind ++ rest)
     (slots_plain, (one_plain, tt)) (omega arith) refl (no_lines nodes modulus) 0 number
     (with_lines nodes modulus few low []) refl
-    ∙ lines_read nodes modulus few low [] lines (0 + 1) (number + 1) rest are
+    ∙ lines_read nodes modulus few low lines (number + 1) rest are
     ∙ rw count refl
 
 pub slot_text_is_read : SlotTextIsRead

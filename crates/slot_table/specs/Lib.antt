@@ -1,7 +1,6 @@
 pub mod Tables
 pub mod HoldLaws
 pub mod SlotPart
-pub mod SlotRefusals
 pub mod SlotAnswers
 pub mod SlotTexts
 pub mod HoldWords

@@ -1,16 +1,17 @@
 -- What reading a slots part answers.
 use Rattle.std.specs.Prelude.{◌≡◌, ℕ, List, Result, Ok, Err, drop}
 use Rattle.texts.specs.Lines.{lines_of}
+use Rattle.sync_types.specs.declared.answers.Rule.{Rule}
 use Rattle.construction.specs.Plans.{Plan, plan_nodes, plan_modulus}
 use Rattle.slot_table.specs.declared.lines.SlotLine.{SlotLine}
-use Rattle.slot_table.specs.declared.refusals.SlotError.{SlotError}
+use Rattle.edge_io.specs.declared.taking.PartError.{PartError}
 use Rattle.slot_table.specs.SlotPart.{part_for}
-use Rattle.slot_table.specs.SlotRefusals.{FailsAsDefined}
+use Rattle.edge_io.specs.Taking.{FailsAsDefined}
 
--- the part that is defined for so many nodes and outputs below that modulus stands at the front of
--- the input, in so many bytes and lines
+-- the part that is defined for so many nodes and outputs below that modulus stands at the beginning
+-- of the input, in so many bytes and lines
 abbrev pub IsAnswerFor : (nodes modulus number : ℕ) → (input : List ℕ)
-    → Result (List SlotLine × ℕ × ℕ) SlotError → Type 0
+    → Result (List SlotLine × ℕ × ℕ) (PartError Rule) → Type 0
 IsAnswerFor nodes modulus number input (Ok read) = part_for nodes modulus number (lines_of input)
     ≡ Ok (record { value = read.0; taken = read.2; behind = lines_of (drop read.1 input) })
 IsAnswerFor nodes modulus number input (Err error) =
@@ -18,6 +19,6 @@ IsAnswerFor nodes modulus number input (Err error) =
 
 -- that of a plan
 abbrev pub IsAnswer : Plan → (number : ℕ) → (input : List ℕ)
-    → Result (List SlotLine × ℕ × ℕ) SlotError → Type 0
+    → Result (List SlotLine × ℕ × ℕ) (PartError Rule) → Type 0
 IsAnswer plan number input result =
     IsAnswerFor (plan_nodes plan) (plan_modulus plan) number input result

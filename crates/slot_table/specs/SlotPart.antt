@@ -6,7 +6,8 @@ use Rattle.std.specs.List.{list_any}
 use Rattle.std.specs.Str.{bytes_eq}
 use Rattle.texts.specs.Lines.{words_of}
 use Rattle.texts.specs.Shapes.{numbers_after}
-use Rattle.texts.specs.Parts.{Next, goes, ends, refuses, with_skips, Found, At, part_from}
+use Rattle.texts.specs.Parts.{Next, goes, ends, refuses, goes_on, with_skips, Found, At}
+use Rattle.texts.specs.Parts.{part_from}
 use Rattle.sync_types.specs.declared.answers.Rule.{Rule}
 use Rattle.sync_types.specs.declared.answers.Rule.TheVariants.{Form, Limit, Node, Range, Overlap}
 use Rattle.construction.specs.Plans.{Plan, plan_nodes, plan_modulus}
@@ -14,7 +15,7 @@ use Rattle.slot_table.specs.declared.lines.SlotLine.{SlotLine}
 use Rattle.slot_table.specs.Tables.{meets, AreApart}
 
 -- how many nodes there are, the modulus of their outputs, whether the first line was read, and the
--- table's lines behind it
+-- table's lines after it
 pub record SlotsSoFar : Type 0 where
   pub nodes : ℕ
   pub modulus : ℕ
@@ -44,22 +45,22 @@ line_tested s other = Err Form
 abbrev pub line_in : SlotsSoFar → List ℕ → Result SlotLine Rule
 line_in s line = line_tested s (numbers_after (codes "slot") 3 (words_of line))
 
--- the part goes on with one more line, or the line is refused
-abbrev pub goes_with : SlotsSoFar → Result SlotLine Rule → Next SlotsSoFar (List SlotLine) Rule
-goes_with s (Ok line) = goes (record s { lines = s.lines ++ line ∷ [] })
-goes_with s (Err rule) = refuses rule
+-- one more line
+abbrev pub with_line : SlotsSoFar → SlotLine → SlotsSoFar
+with_line s line = record s { lines = s.lines ++ line ∷ [] }
 
--- a line behind those that were read
+-- a line after those that were read
 abbrev pub slots_step : SlotsSoFar → List ℕ → Next SlotsSoFar (List SlotLine) Rule
 slots_step s line =
     if s.begun
-    then (if bytes_eq line (codes "end") then ends s.lines else goes_with s (line_in s line))
+    then (if bytes_eq line (codes "end") then ends s.lines
+    else goes_on (with_line s) (line_in s line))
     else (if bytes_eq line (codes "slots 1") then goes (record s { begun = true })
     else refuses Form)
 
--- The slots part at the front of these lines, of which the first has that number: its table, how
--- many lines it took through `end`, and the lines behind; or the first line that fails, with the
--- first rule that it fails.
+-- The slots part at the beginning of these lines, of which the first has that number: its table,
+-- how many lines it took through `end`, and the lines after it; or the first line that fails, with
+-- the first rule that it fails.
 abbrev pub part_for : (nodes modulus number : ℕ) → List (List ℕ)
     → Result (Found (List SlotLine)) (At Rule)
 part_for nodes modulus number lines =
@@ -71,7 +72,7 @@ pub record IsFor (nodes modulus : ℕ) (line : SlotLine) : Type 0 where
   pub order : line.first ≤ line.last
   pub output : line.last < modulus
 
--- what the lines of a table are that was read for these
+-- what holds of the lines of a table that was read for these
 pub record IsTable (nodes modulus : ℕ) (lines : List SlotLine) : Type 0 where
   pub many : length lines ≤ 256
   pub each : All (IsFor nodes modulus) lines

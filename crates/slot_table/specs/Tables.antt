@@ -32,7 +32,7 @@ AreApart lines = (i j output : ℕ) (d : SlotLine) → i < length lines → j < 
     → covers output (slice_index_or lines i d) ≡ true
     → covers output (slice_index_or lines j d) ≡ true → i ≡ j
 
--- Where no output stands in two lines, a node that holds at an output is its holder.
+-- If no output stands in two lines, a node that holds at an output is its holder.
 abbrev pub HolderHolds : Type 0
 HolderHolds = (lines : List SlotLine) → AreApart lines → (v output : ℕ) → Holds lines v output
     → holder_of lines output ≡ Some v

@@ -8,15 +8,15 @@ ghost use Rattle.slot_table.specs.HoldWords.{WordsAreExact, OneHolds};
 ghost use Rattle.slot_table.specs.SlotPart.{part_for, part_of, IsTable, AreFor};
 ghost use Rattle.slot_table.specs.SlotTexts.{TableTextIsRead, SlotTextIsRead};
 
-/// Where no output stands in two lines, a node that holds at an output is its holder, and the
-/// holder holds.
+/// If no output stands in two lines, a node that holds at an output is its holder, and the holder
+/// holds.
 pub fn one_holder()
     ensures holds { HolderHolds }
     ensures is_one { HolderIsOne }
 {}
 
-/// In a line of who holds a node's word is 1 exactly where the table gives it the output that it
-/// shows, and so that of one node at most where all show one.
+/// In a line of who holds a node's word is 1 exactly if the table gives it the output that it
+/// shows, and so that of one node at most if all show one.
 pub fn hold_words()
     ensures exact { WordsAreExact }
     ensures one { OneHolds }
@@ -37,7 +37,7 @@ pub fn lines_fit()
         → IfOk (part_of plan number lines) (λ found. AreFor plan found.value) }
 {}
 
-/// The text of each table is read as this table, at the front of any text, for an accepted plan
+/// The text of each table is read as this table, at the beginning of any text, for an accepted plan
 /// too.
 pub fn slot_texts_read_back()
     ensures any { TableTextIsRead }

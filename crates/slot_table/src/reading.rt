@@ -1,23 +1,29 @@
 ghost use Rattle.std.specs.Prelude.{◌≤◌, ◌<◌, ◌+◌, ◌^◌, length, IfOk};
 ghost use Rattle.slot_table.specs.SlotAnswers.{IsAnswer, IsAnswerFor};
 
-use crate::refusals::SlotError;
 use crate::slot_lines::SlotLines;
 use crate::tables::SlotTable;
-use edge_io::read_part;
+use edge_io::{PartError, Refused, read_part};
 use plan_numbers::Plan;
 use std::alloc::Global;
 use sync_types::Rule;
 
-/// Reads the slots part at the front of an input: the table for so many nodes and outputs below
-/// that modulus, how many bytes stand through the part's `end` line, that line's newline among
-/// them, and how many lines these are, skipped ones counted. The first line of `bytes` has the
+/// The line of a slots part that is refused: its number in the whole input, skipped lines counted,
+/// and the first rule that it fails. If the part lacks its end, it is the line after the last.
+pub type SlotRefusal = Refused<Rule>;
+
+/// Why a slots part was not read: its first line that fails, or memory was refused.
+pub type SlotError = PartError<Rule>;
+
+/// Reads the slots part at the beginning of an input: the table for so many nodes and outputs below
+/// that modulus, how many bytes there are through the part's `end` line, that line's newline
+/// included, and how many lines these are, skipped ones counted. The first line of `bytes` has the
 /// number `first_line`, which is at least 1 and whose sum with the length of `bytes` is below 2^64.
 ///
 /// `Refused` is the first line that fails, with the first rule that it fails: `Form`, `Limit` for
 /// the 257th line, `Node` for an id that is not that of a node, `Range` for outputs that end before
 /// they begin or are not below the modulus, `Overlap` for an output that stands in an earlier line.
-/// A part that lacks its `end` is refused `Form` at the line after the last. `NoMemory` comes where
+/// A part that lacks its `end` is refused `Form` at the line after the last. `NoMemory` comes if
 /// memory was refused.
 pub fn read_slots_for(
     alloc: Global,
@@ -37,7 +43,7 @@ pub fn read_slots_for(
     Ok((read.value, read.bytes, read.lines))
 }
 
-/// Reads the slots part at the front of an input for the nodes and outputs of a plan, as
+/// Reads the slots part at the beginning of an input for the nodes and outputs of a plan, as
 /// [`read_slots_for`] does.
 pub fn read_slots(
     alloc: Global,

@@ -23,8 +23,7 @@ impl SlotTable {
     ghost use Rattle.std.specs.Prelude.{◌≡◌};
     ghost use Rattle.slot_table.specs.Tables.{holder_of};
 
-    /// The node that holds at output `o`, None where the output stands in no line. It takes no
-    /// memory.
+    /// The node that holds at output `o`, None if the output stands in no line. It takes no memory.
     pub fn holder(&self, o: u64) -> Option<u32>
         ensures { result ≡ holder_of self.now o }
     {

@@ -57,12 +57,12 @@ length-bits_of_registers (c ∷ cs) (r ∷ rs) h =
       registers_bits-cons c cs,
     )
 
--- the number at the front
+-- the number at the beginning
 front_number : (w n : ℕ) (rest : List Bool) → n < 2 ^ w → number_of (take w (bits w n ++ rest)) ≡ n
 front_number w n rest h = ap number_of (take_at (bits w n) rest w (length-bits w n))
     ∙ number_of_enough w n h
 
--- what stands behind a register
+-- what stands after a register
 behind_register : (c : ℕ) (r : Reg) (rest : List Bool)
     → drop (register_bits c) (bits_of_register c r ++ rest) ≡ rest
 behind_register c r rest =

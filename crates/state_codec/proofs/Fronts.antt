@@ -1,4 +1,4 @@
--- What is taken from the front of bits.
+-- What is taken from the beginning of bits.
 use Rattle.std.proofs.Common.{◌≡◌, ℕ, ◌+◌, ◌/◌, ◌^◌, Bool, take, drop, List, ◌++◌, append_assoc}
 use Rattle.std.proofs.lemmas.List.{take_at, drop_at}
 use Rattle.state_codec.specs.Bits.{bits}
@@ -11,7 +11,7 @@ take_front w k a rest =
     rw (bits_split w k a, append_assoc)
     (take_at (bits w (a / 2 ^ k)) (bits k a ++ rest) w (length-bits w (a / 2 ^ k)))
 
--- behind them are its lowest
+-- after them are its lowest
 pub drop_front : (w k a : ℕ) (rest : List Bool) → drop w (bits (w + k) a ++ rest) ≡ bits k a ++ rest
 drop_front w k a rest =
     rw (bits_split w k a, append_assoc)

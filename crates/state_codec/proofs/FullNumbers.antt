@@ -16,7 +16,7 @@ use Rattle.state_codec.proofs.RegisterSteps.{marked, bit_below, value_most, regi
 use Rattle.state_codec.proofs.RegisterSteps.{registers_bits_of_none}
 use mir.Val.{bool_byte}
 
--- a register that is there has a bit for its mark behind those of its value
+-- a register that is there has a bit for its mark after those of its value
 pub full_size : (m : ℕ) → (m == 0) ≡ false → register_bits m ≡ width (m + 1) + 1
 full_size m there = ap (λ b. cond b 0 (width (m + 1) + 1)) there
 
@@ -53,7 +53,7 @@ fields_short base ms limits few =
       registers_short ms limits.moduli,
     )
 
--- the value with the mark behind it
+-- the value with the mark after it
 pub full_number : (m size v : ℕ) (r : Reg) → m ≤ 2 ^ 40 → (m == 0) ≡ false
     → size ≡ register_bits m → IsField m r → v ≡ unwrap_or r.a m
     → (bits size (bit_or (v * 2 ^ 1 % 2 ^ 64) (bool_byte r.d)) ≡ bits_of_register m r)

@@ -29,7 +29,7 @@ module _ (low : ℕ) (own behind : List ℕ) (few : low ≤ length own) where
         (length-moduli_from low own) over))
   ]
 
-  -- what stands behind is no level's, and no node lacks it
+  -- what follows is no level's, and no node lacks it
   pub moduli_from_further : moduli_from low (own ++ behind) ≡ moduli_from low own ++ behind
   moduli_from_further =
       let long : length (moduli_from low (own ++ behind)) ≡ length (moduli_from low own ++ behind) =

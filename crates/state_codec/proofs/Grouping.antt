@@ -3,10 +3,10 @@ use Rattle.std.proofs.Common.{◌≡◌, ℕ, ◌+◌, ◌<◌, ◌≤◌, ◌�
 use Rattle.std.proofs.Common.{take, map, get_or, refl, sym, ap, ap₂, subst, ◌∙◌, arith}
 use Rattle.std.proofs.Common.{length-append}
 use Rattle.std.specs.Prelude.{All, slice_index_or}
-use Rattle.std.proofs.lemmas.List.{map_push, length-map, take_more, take_all, get_or_append_left}
+use Rattle.std.proofs.lemmas.List.{map_push, take_more, get_or_append_left}
 use Rattle.std.proofs.lemmas.List.Elements.{All-head, All-tail, All-push, All-weaker}
-use Rattle.state_codec.specs.Shapes.{Fields, no_fields, IsShape}
-use Rattle.state_codec.specs.ShapesKept.{fields_by, IsKept}
+use Rattle.state_codec.specs.Shapes.{Fields, no_fields}
+use Rattle.state_codec.specs.ShapesKept.{fields_by}
 
 -- functions that agree on a list's items map it alike
 map_same : {X Y : Type 0} (P : X → Type 0) (f g : X → Y) (same : (x : X) → P x → f x ≡ g x)
@@ -46,7 +46,7 @@ module _ (old new : List Fields) (fields : Fields) where
       (All-push (λ f. length f.moduli ≡ depth) old fields all deep)
 
 module _ (depth : ℕ) (nodes : List Fields) (deep : All (λ f. length f.moduli ≡ depth) nodes) where
-  -- one node more
+  -- one more node
   pub grouped_more : (old new : List Fields) (which : List ℕ) (v kind : ℕ) (fields : Fields)
       → IsGrouped depth nodes old which v → IsGrown old new fields → kind < length new
       → get_or new kind no_fields ≡ fields → v < length nodes → fields ≡ get_or nodes v fields
@@ -66,21 +66,4 @@ module _ (depth : ℕ) (nodes : List Fields) (deep : All (λ f. length f.moduli 
         among = All-push (λ k. k < length new) which kind
             (All-weaker (λ k. k < length old) (λ k. k < length new) (λ k below. omega arith) which
             so.among) within;
-      }
-
-  -- all nodes
-  pub grouped_kept : (kinds : List Fields) (which : List ℕ) (v : ℕ)
-      → IsGrouped depth nodes kinds which v → length nodes ≤ v → length nodes ≤ 256
-      → IsShape (record { depth = depth; fields = nodes })
-      → IsKept (record { depth = depth; fields = fields_by kinds which }) kinds which
-  grouped_kept kinds which v so end few sound =
-      let all : fields_by kinds which ≡ nodes = so.fields ∙ take_all v nodes end in
-      let as_nodes = length-map which (λ k. slice_index_or kinds k no_fields) in
-      record {
-        sound = subst (λ (fs : List Fields). IsShape (record { depth = depth; fields = fs }))
-            (sym all) sound;
-        nodes = omega (arith, few, as_nodes, ap length all);
-        fields = refl;
-        depth = so.deep;
-        among = so.among;
       }

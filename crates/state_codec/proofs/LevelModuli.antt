@@ -32,7 +32,7 @@ modulus_of_level base levels i n e =
     sym (ap (λ (y : List ℕ). get_or y i 0) (sym (moduli_of_numbers base levels))
     ∙ got_modulus (numbers_of base levels) i n e)
 
--- a modulus more is that of its level
+-- one more modulus is that of its level
 pub moduli_step : (moduli : List ℕ) (base : ℕ) (levels : List Level) (i m : ℕ) (n : LevelNums)
     → i < length moduli → length moduli ≡ length levels
     → slice_get (numbers_of base levels) i ≡ Some n → m ≡ n.modulus

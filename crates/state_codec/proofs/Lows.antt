@@ -76,7 +76,7 @@ own_base : (b : Bool) (base : ℕ) → 2 ≤ base → base ≤ 2 ^ 40
 own_base true base least most = (omega arith, most)
 own_base false base least most = (omega arith, omega arith)
 
--- the fields of a low are within the limits where all fields are
+-- the fields of a low are within the limits if all fields are
 pub from_limited : (all : Fields) (low : ℕ) → AreAll all → IsFields (fields_from all low)
 from_limited all low sound =
     let own = own_base (low == 0) all.base sound.least sound.most in
@@ -105,15 +105,6 @@ pub depth_at : (shape : Shape) (v : ℕ) → length (fields_at shape v).moduli �
 depth_at shape v = length-map-range_with_len
     (λ i. slice_index_or (slice_index_or shape.fields v no_fields).moduli i 0) 0 shape.depth
 
--- the modulus of a register
-pub modulus_of_node : (shape : Shape) (v i : ℕ) → i < shape.depth
-    → get_or (fields_at shape v).moduli i 0
-    ≡ get_or (slice_index_or shape.fields v no_fields).moduli i 0
-modulus_of_node shape v i lt = get_or-map-range_with_len
-    (λ i. slice_index_or (slice_index_or shape.fields v no_fields).moduli i 0) 0 shape.depth i i 0
-    lt
-    (omega arith)
-
 -- fields of the depth are taken as they are
 pub same_depth : (depth : ℕ) (fields : Fields) → length fields.moduli ≡ depth
     → fields ≡ to_depth depth fields
@@ -140,7 +131,7 @@ modulus_limited ms i limited = elim (cases_lt i (length ms)) [
   | inr over ↦ subst (λ c. c ≤ 2 ^ 40) (sym (get_or_past ms i 0 over)) (omega arith)
 ]
 
--- they are within the limits where the shape is
+-- they are within the limits if the shape is
 pub fields_limited : (shape : Shape) (v : ℕ) → IsShape shape → IsFields (fields_at shape v)
 fields_limited shape v sound =
     let own : Fields = get_or shape.fields v no_fields in

@@ -55,7 +55,7 @@ pub bits_of_remainder : (k n : ℕ) → bits k (n % 2 ^ k) ≡ bits k n
 bits_of_remainder k n = sym (bits_low k k (n / 2 ^ k) (n % 2 ^ k) (omega arith))
     ∙ ap (λ (y : ℕ). bits k y) (shr_split n k)
 
--- bits behind others
+-- bits after others
 pub bits_push : (h w a b : ℕ) → b < 2 ^ w → bits h a ++ bits w b ≡ bits (h + w) (a * 2 ^ w + b)
 bits_push h w a b l =
     sym (bits_split h w (a * 2 ^ w + b)

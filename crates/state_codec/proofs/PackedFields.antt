@@ -1,4 +1,4 @@
--- Fields of a state whose bytes stand at the front of others.
+-- Fields of a state whose bytes stand at the beginning of others.
 use Rattle.std.proofs.Common.{◌≡◌, ℕ, zero, suc, ◌+◌, ◌*◌, ◌<◌, ◌≤◌, Bool, true, false, cond}
 use Rattle.std.proofs.Common.{length, take, drop, get_or, List, [], ◌∷◌, ◌++◌, refl, sym, ap, ap₂}
 use Rattle.std.proofs.Common.{◌∙◌, arith, ◌==◌, Option}
@@ -18,7 +18,7 @@ use Rattle.state_codec.specs.Reading.{state_from, read}
 use Rattle.state_codec.proofs.Whole.{rounded}
 use Rattle.state_codec.proofs.RegisterSteps.{registers_bits-cons, registers_bits_of_none, bits_more}
 
--- bits of the front of bytes
+-- bits of a prefix of bytes
 bits_among : (xs : List ℕ) (n from w : ℕ) → n ≤ length xs → from + w ≤ 8 * n
     → take w (drop from (bits_of_bytes (take n xs))) ≡ take w (drop from (bits_of_bytes xs))
 bits_among xs n from w within fits =
@@ -51,7 +51,7 @@ register_by_front true c bs cs same = refl
 register_by_front false c bs cs same = sym (full_by_front c bs)
     ∙ (ap (full_register c) same ∙ full_by_front c cs)
 
--- register i begins behind those below it
+-- register i begins after those below it
 register_in : (cs : List ℕ) (i : ℕ) (bs : List Bool) → i < length cs
     → get_or (registers_from cs bs) i zero_register
     ≡ register_from (get_or cs i 0) (drop (registers_bits (take i cs)) bs)

@@ -16,7 +16,7 @@ use Rattle.state_codec.specs.Ranges.{IsField, AreBelow, InRange}
 use Rattle.state_codec.proofs.Lows.{length-moduli_from, fields_of_node, modulus_at}
 use Rattle.state_codec.proofs.Plans.{moduli_of-cons, length-moduli_of, all_of_accepted}
 
--- each register of a node is in range, or zero where the node lacks it
+-- each register of a node is in range, or zero if the node lacks it
 abbrev AreRegisters : (low : ℕ) → List ℕ → State → Type 0
 AreRegisters low moduli s = (i : ℕ) → i < length moduli
     → IsRegister (nat_le low (i + 1)) (get_or moduli i 0) (register_at i s)
@@ -24,7 +24,7 @@ AreRegisters low moduli s = (i : ℕ) → i < length moduli
 no_moduli : length (moduli_of []) ≡ 0
 no_moduli = length-moduli_of []
 
--- each register is in range by its level's modulus, or zero where the node lacks it, level by level
+-- each register is in range by its level's modulus, or zero if the node lacks it, level by level
 levels_below : (low : ℕ) (levels : List Level) (s : State) → HasRegisters low levels s
     → AreRegisters low (moduli_of levels) s
 levels_below low [] s range i lt = absurd (omega (arith, no_moduli))

@@ -89,7 +89,7 @@ field bytes from width small most within =
     ap (λ ys. number_of (take width ys)) (there ∙ cut)
     ∙ (ap number_of (take_front width r n behind) ∙ number_of-bits width (n / 2 ^ r))
 
--- a field at the front of bytes
+-- a field at the beginning of bytes
 pub front : (bytes : List ℕ) (width n : ℕ) → ((j : ℕ) → get_or bytes j 0 < 256) → width ≤ 56
     → 8 ≤ length bytes → n < 2 ^ 64 → n ≡ big_from 0 8 (take 8 bytes)
     → n / 2 ^ (64 - width) ≡ number_of (take width (bits_of_bytes bytes))

@@ -7,7 +7,7 @@ use Rattle.state_codec.specs.Bits.{number_of, bits_of_bytes}
 use Rattle.construction.specs.Widths.{width}
 use Rattle.state_codec.specs.Shapes.{Fields, register_bits, bytes_in}
 
--- a number, where it is below the modulus
+-- a number, if it is below the modulus
 abbrev pub below : (modulus n : ℕ) → Option ℕ
 below modulus n = if nat_lt n modulus then Some n else None
 
@@ -22,7 +22,7 @@ full_register modulus bs = record {
 abbrev pub register_from : (modulus : ℕ) → List Bool → Reg
 register_from modulus bs = if modulus == 0 then zero_register else full_register modulus bs
 
--- the registers of the first bits, one behind the other
+-- the registers of the first bits, one after the other
 unfoldable pub registers_from : List ℕ → List Bool → List Reg
 registers_from [] bs = []
 registers_from (modulus ∷ moduli) bs =
@@ -35,7 +35,7 @@ state_from fields bs = record {
   registers = registers_from fields.moduli (drop (width fields.base) bs);
 }
 
--- the state of bytes: that of their bits, or the zero state where there are not so many bytes as a
+-- the state of bytes: that of their bits, or the zero state if there are not so many bytes as a
 -- state has
 abbrev pub read : Fields → List ℕ → State
 read fields bytes =

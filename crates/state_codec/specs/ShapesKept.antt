@@ -2,7 +2,7 @@
 use Rattle.std.specs.Prelude.{◌≡◌, ◌<◌, ◌≤◌, ℕ, List, length, map, slice_index_or, All}
 use Rattle.state_codec.specs.Shapes.{Fields, no_fields, Shape, IsShape}
 
--- the fields of each node, where there are these kinds, and it has this one
+-- the fields of each node, if there are these kinds, and it has this one
 abbrev pub fields_by : List Fields → (which : List ℕ) → List Fields
 fields_by kinds which = map (λ kind. slice_index_or kinds kind no_fields) which
 

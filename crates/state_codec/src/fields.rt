@@ -19,7 +19,7 @@ use sync_types::{NoMemory, NodeState};
 /// No state has more bytes.
 pub const MOST_BYTES: usize = 128;
 
-/// Eight bytes more are read with a state.
+/// Eight more bytes are read with a state.
 pub const ROOM: usize = MOST_BYTES + 8;
 
 /// The fields of a node's state, and so which bits it takes: the modulus of the number, and that of
@@ -132,7 +132,7 @@ impl Fields {
     }
 
     /// Tells a caller's proof that the moduli are within the limits. It does nothing when it runs.
-    pub fn tell(&self)
+    pub fn facts(&self)
         ensures { IsFields self.now }
     {
         let _size = self.size;
@@ -149,7 +149,7 @@ impl Fields {
         }
     }
 
-    /// Writes the registers of a state behind what was written.
+    /// Writes the registers of a state after what was written.
     fn put_registers(&self, out: &mut [u8], start: Pending, state: &NodeState) -> Pending
         requires range { InRange self.now state.now }
         requires space { 8 * start.at + start.count + registers_bits self.now.moduli
@@ -195,14 +195,14 @@ impl Fields {
     }
 
     /// Reads a state from any bytes into `out`, which has the fields' depth. Bytes that are not
-    /// just so many as a state has stand for the zero state. A number of its modulus or more is
+    /// exactly as many as a state has stand for the zero state. A number of its modulus or more is
     /// read as 0, and a value as infinity; padding is ignored.
     pub fn read_state(&self, bytes: &[u8], out: &mut NodeState)
         requires { length out.old.registers ≡ length self.now.moduli }
         ensures value { out.new ≡ read self.now bytes.now }
         ensures range { InRange self.now out.new }
     {
-        self.tell();
+        self.facts();
         if bytes.len() == self.bytes() {
             let mut room = [0; ROOM];
             room[..bytes.len()].copy_from_slice(bytes);
@@ -212,8 +212,8 @@ impl Fields {
         }
     }
 
-    /// The number of the state at the front of bytes, by one load of eight bytes; so many more
-    /// stand behind it.
+    /// The number of the state at the beginning of bytes, by one load of eight bytes; so many more
+    /// stand after it.
     fn number_of(&self, bytes: &[u8]) -> u64
         requires { bytes_in self.now + 8 ≤ length bytes.now }
         ensures { result ≡ (read self.now (take (bytes_in self.now) bytes.now)).x }
@@ -225,15 +225,15 @@ impl Fields {
         below(self.base, number).unwrap_or(0)
     }
 
-    /// Reads the state at the front of bytes into `out`, which has the fields' depth; eight bytes
-    /// more stand behind it.
+    /// Reads the state at the beginning of bytes into `out`, which has the fields' depth; eight
+    /// more bytes stand after it.
     pub fn read_front(&self, bytes: &[u8], out: &mut NodeState)
         requires within { bytes_in self.now + 8 ≤ length bytes.now }
         requires depth { length out.old.registers ≡ length self.now.moduli }
         ensures value { out.new ≡ read self.now (take (bytes_in self.now) bytes.now) }
         ensures range { InRange self.now out.new }
     {
-        self.tell();
+        self.facts();
         out.set_x(self.number_of(bytes));
         for i in 0..self.moduli.len() {
             let register = self.register(i).read(bytes, self.offsets[i] as usize);

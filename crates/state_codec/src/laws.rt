@@ -35,7 +35,7 @@ pub fn text_reads_back()
 
 /// The shape of an accepted plan is within the limits, and has the plan's depth and nodes. All
 /// fields of the plan together have its bits, and so has each node that takes part from the lowest
-/// level on. Where a shape is within the limits, so are the fields of each of its nodes.
+/// level on. If a shape is within the limits, so are the fields of each of its nodes.
 pub fn plans_have_shapes()
     ensures shape { (plan : Plan) → IsAccepted plan → IsShape (shape_of plan) }
     ensures fields { (shape : Shape) (v : ℕ) → IsShape shape → IsFields (fields_at shape v) }

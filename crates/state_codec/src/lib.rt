@@ -1,5 +1,5 @@
 //! States of nodes as bits: a state is read from any bytes, and written as bytes or as hex digits.
-//! Where a plan says which fields its nodes have, [`StateShape`] says which bits these take.
+//! If a plan says which fields its nodes have, [`StateShape`] says which bits these take.
 //!
 //! The bits of a state are its number, then for each register, the lowest first, its value and its
 //! mark, each most significant bit first, and then zeros up to a whole byte. A field that the node

@@ -17,7 +17,7 @@ pub fn level_moduli(alloc: Global, plan: &Plan) -> Result<Vec<u64>, NoMemory>
         (λ moduli. All (λ modulus. (2 ≤ modulus) × (modulus ≤ 2 ^ 40)) moduli.items) }
     ensures few { IfOk result (λ moduli. length moduli.items ≤ 5) }
 {
-    plan.tell();
+    plan.facts();
     let mut moduli = vec![in alloc; 0; plan.depth()]?;
     for i in 0..plan.depth() {
         moduli[i] = plan.level(i).modulus;
@@ -38,14 +38,14 @@ pub fn node_lows(alloc: Global, plan: &Plan) -> Result<Vec<usize>, NoMemory>
     Ok(lows)
 }
 
-/// The modulus of the register of a level at a node of that low: 0 where the node lacks it.
+/// The modulus of the register of a level at a node of that low: 0 if the node lacks it.
 fn modulus_from(low: usize, level: usize, modulus: u64) -> u64
     ensures { result ≡ if nat_lt level low then 0 else modulus }
 {
     if level < low { 0 } else { modulus }
 }
 
-/// The modulus of the number at a node of that low: 1 where the node lacks it.
+/// The modulus of the number at a node of that low: 1 if the node lacks it.
 fn base_from(low: usize, base: u64) -> u64
     ensures { result ≡ if low == 0 then base else 1 }
 {
@@ -75,7 +75,7 @@ pub fn kinds(alloc: Global, plan: &Plan, moduli: &[u64]) -> Result<Vec<Fields>, 
         ≡ map (fields_from (all_over plan.now moduli.now))
         (range_with_len 0 (plan_depth plan.now + 1))) }
 {
-    plan.tell();
+    plan.facts();
     let base = plan.base_modulus();
     let lows = plan.depth() + 1;
     let mut kinds = Vec::with_capacity(alloc, lows)?;
@@ -100,7 +100,7 @@ pub fn copies(alloc: Global, kinds: &[Fields]) -> Result<Vec<Fields>, NoMemory>
     Ok(made)
 }
 
-/// The place of the first of these fields that are the same, or the end where there are none.
+/// The place of the first of these fields that are the same, or the end if there are none.
 fn place_of(kinds: &[Fields], fields: &Fields) -> usize
     ensures most { result ≤ length kinds.now }
     ensures same { result < length kinds.now
@@ -114,7 +114,7 @@ fn place_of(kinds: &[Fields], fields: &Fields) -> usize
     kinds.len()
 }
 
-/// The place of fields among kinds, to which they are added where they are new.
+/// The place of fields among kinds, to which they are added if they are new.
 pub fn kind_among(
     alloc: Global,
     kinds: &mut Vec<Fields>,

@@ -21,7 +21,7 @@ pub struct Packed {
     next: Vec<NodeState>,
 }
 
-// Written out, so that what lets go of one calls this, and no more.
+// Written out, so that code that drops one has a single call.
 impl Drop for Packed {
     fn drop(self) {
         let Packed {
@@ -57,7 +57,7 @@ impl Packed {
         ensures { IfOk result (λ packed. packed
             ≡ record { shape = shape; current = zeros shape nodes; next = zeros shape nodes }) }
     {
-        shape.tell();
+        shape.facts();
         let most = shape.nodes();
         let depth = shape.depth();
         let current = NodeState::zeros(alloc, nodes, depth)?;
@@ -87,7 +87,7 @@ impl Packed {
 
     /// Tells a caller's proof that each configuration has a state in range for each node, and at
     /// most as many as the shape. It does nothing when it runs.
-    pub fn tell(&self)
+    pub fn facts(&self)
         ensures sound { IsShape self.now.shape }
         ensures few { length self.now.current ≤ shape_nodes self.now.shape }
         ensures size { length self.now.next ≡ length self.now.current }
@@ -113,7 +113,7 @@ impl Packed {
         requires depth { length out.old.registers ≡ self.now.shape.depth }
         ensures { out.new ≡ state_of self.now.current v }
     {
-        self.tell();
+        self.facts();
         out.copy_from(self.state(v));
     }
 
@@ -131,7 +131,7 @@ impl Packed {
         requires register { i < self.now.shape.depth }
         ensures { result ≡ register_at i (state_of self.now.current v) }
     {
-        self.tell();
+        self.facts();
         self.state(v).reg(i)
     }
 
@@ -144,7 +144,7 @@ impl Packed {
         self.next[v as usize].copy_from(state);
     }
 
-    /// Makes a number alone the next state of node `v`, where states have no registers.
+    /// Makes a number alone the next state of node `v`, if states have no registers.
     pub fn put_number(&mut self, v: u32, x: u64)
         requires node { v < length self.old.next }
         requires range { InRange (fields_at self.old.shape v) (number_alone x) }

@@ -19,8 +19,8 @@ const ZERO: Reg = Reg {
 /// A number of no bits.
 const NOTHING: SizedNumber = SizedNumber { size: 0, value: 0 };
 
-/// The bits of a register: its modulus, which is 0 where the register is lacking, and how many bits
-/// it has.
+/// The bits of a register: its modulus, which is 0 if the register is lacking, and how many bits it
+/// has.
 #[derive(Clone, Copy)]
 pub struct RegisterField {
     pub modulus: u64,
@@ -48,7 +48,7 @@ impl RegisterField {
     }
 
     /// The register whose bits begin at bit `from`, by one load of eight bytes; so many more stand
-    /// behind it. One that is lacking is zero.
+    /// after it. One that is lacking is zero.
     pub fn read(self, bytes: &[u8], from: usize) -> Reg
         requires { from + self.size + 64 ≤ 8 * length bytes.now }
         ensures { result ≡ register_from self.modulus (drop from (bits_of_bytes bytes.now)) }
@@ -67,7 +67,7 @@ impl RegisterField {
     }
 }
 
-/// A number, where it is below the modulus.
+/// A number, if it is below the modulus.
 pub fn below(modulus: u64, n: u64) -> Option<u64>
     ensures { result ≡ below modulus n }
 {

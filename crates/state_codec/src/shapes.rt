@@ -26,7 +26,7 @@ pub struct StateShape {
     which: Vec<usize>,
 }
 
-// Written out, so that what lets go of one calls this, and no more.
+// Written out, so that code that drops one has a single call.
 impl Drop for StateShape {
     fn drop(self) {
         let StateShape {
@@ -60,7 +60,7 @@ impl StateShape {
         ensures depth { IfOk result (λ shape. shape.depth ≡ plan_depth plan.now) }
         ensures nodes { IfOk result (λ shape. shape_nodes shape ≡ plan_nodes plan.now) }
     {
-        plan.tell();
+        plan.facts();
         let moduli = level_moduli(alloc, plan)?;
         StateShape::over(alloc, plan, moduli)
     }
@@ -103,7 +103,7 @@ impl StateShape {
         requires few { length moduli.items ≤ 16 }
         ensures { IfOk result (λ shape. shape ≡ shape_over plan.now moduli.items) }
     {
-        plan.tell();
+        plan.facts();
         let depth = moduli.len();
         let kinds = kinds(alloc, plan, &moduli)?;
         let which = node_lows(alloc, plan)?;
@@ -164,7 +164,7 @@ impl StateShape {
     }
 
     /// Tells a caller's proof that the moduli are within the limits. It does nothing when it runs.
-    pub fn tell(&self)
+    pub fn facts(&self)
         ensures { IsShape self.now }
     {
         let _depth = self.depth;
@@ -178,7 +178,7 @@ impl StateShape {
         &self.kinds[self.which[v as usize]]
     }
 
-    /// The modulus of the number of node `v`, at most 2^40; it is 1 where the node lacks a number.
+    /// The modulus of the number of node `v`, at most 2^40; it is 1 if the node lacks a number.
     pub fn base_of(&self, v: u32) -> u64
         requires { v < shape_nodes self.now }
         ensures value { result ≡ (fields_at self.now v).base }
@@ -188,7 +188,7 @@ impl StateShape {
         self.fields(v).base()
     }
 
-    /// The modulus of register `i` of node `v`, the lowest being 0. It is at most 2^40, and 0 where
+    /// The modulus of register `i` of node `v`, the lowest being 0. It is at most 2^40, and 0 if
     /// the node lacks the register.
     pub fn modulus_of(&self, v: u32, i: usize) -> u64
         requires node { v < shape_nodes self.now }
@@ -228,9 +228,9 @@ impl StateShape {
     }
 
     /// Reads a state of node `v` from any bytes into `out`, which has the depth of the shape. Bytes
-    /// that are not just so many as a state of the node has stand for the zero state. A number of
-    /// its modulus or more is read as 0, and a value as infinity; padding is ignored, and what the
-    /// node lacks is zero.
+    /// that are not exactly as many as a state of the node has stand for the zero state. A number
+    /// of its modulus or more is read as 0, and a value as infinity; padding is ignored, and what
+    /// the node lacks is zero.
     pub fn read_state(&self, v: u32, bytes: &[u8], out: &mut NodeState)
         requires node { v < shape_nodes self.now }
         requires depth { length out.old.registers ≡ self.now.depth }
@@ -240,9 +240,9 @@ impl StateShape {
         self.fields(v).read_state(bytes, out);
     }
 
-    /// Reads a state of node `v` from the front of bytes into `out`, which has the depth of the
-    /// shape; eight bytes more stand behind it. It is read as
-    /// [`read_state`](StateShape::read_state) reads it.
+    /// Reads a state of node `v` from the beginning of bytes into `out`, which has the depth of the
+    /// shape; eight more bytes stand after it. It is read as [`read_state`](StateShape::read_state)
+    /// reads it.
     pub fn read_front(&self, v: u32, bytes: &[u8], out: &mut NodeState)
         requires node { v < shape_nodes self.now }
         requires within { bytes_in (fields_at self.now v) + 8 ≤ length bytes.now }

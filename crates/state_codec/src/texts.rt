@@ -50,8 +50,8 @@ impl StateShape {
     }
 
     /// Reads a state of node `v` from hex digits into `out`, which has the depth of the shape. The
-    /// error comes where the text is not `2 * bytes_of(v)` digits of `0-9a-f`, and leaves the state
-    /// as it was.
+    /// error comes if the text is not `2 * bytes_of(v)` digits of `0-9a-f`, and leaves the state as
+    /// it was.
     pub fn read_hex(&self, v: u32, text: &[u8], out: &mut NodeState) -> Result<(), NotState>
         requires node { v < shape_nodes self.now }
         requires depth { length out.old.registers ≡ self.now.depth }

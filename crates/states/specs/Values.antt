@@ -1,4 +1,4 @@
--- The registers of a layer, behind those of a plan, as lines `values V` say them.
+-- The registers of a layer, after those of a plan, as lines `values V` say them.
 use Rattle.std.specs.Prelude.{ℕ, ◌+◌, ◌≤◌, ◌==◌, ◌||◌, ◌&&◌, nat_lt, not, Bool, false, List, []}
 use Rattle.std.specs.Prelude.{◌∷◌, Option, Some, None, Result, Ok, Err, if◌then◌else◌, codes}
 use Rattle.std.specs.Str.{bytes_eq}
@@ -43,7 +43,7 @@ is_of_values line = begins_with (codes "values") (words_of line)
 abbrev pub no_layer : Layer
 no_layer = record { registers = 0; values = 2 }
 
--- The layer that the lines of values at the front of numbered lines say behind a layer, or the
+-- The layer that the lines of values at the beginning of numbered lines say after a layer, or the
 -- number of the first of them that says no register.
 abbrev pub layer_behind : Layer → List (ℕ × List ℕ) → Result Layer NotValues
 layer_behind layer [] = Ok layer

@@ -1,62 +1,48 @@
-//! Tells how the program is used, and its version.
+//! Does what the words ask for.
 
-ghost use Rattle.std.specs.Prelude.{map, string_bytes};
-ghost use Rattle.texts.specs.Growth.{Puts};
-ghost use Rattle.states.specs.Asked.{Tells, help_text, text_alone, text_for, version_text};
+ghost use Rattle.std.specs.Prelude.{◌≡◌, map, string_bytes, IsErrOf};
+ghost use Rattle.program_words.specs.Conduct.{LeavesUnread};
+ghost use Rattle.states.specs.Conduct.{DoesAsked, asked_of};
 
-use edge_io::{Piece, Sink, WriteFault, put_all, put_pieces};
+use crate::calling::turn_input;
+use crate::reasons::StateError;
+use crate::requests::request_of;
+use edge_io::{Sink, Source, put_all};
+use program_words::{Asked, ProgramError, asked_by};
+use std::alloc::Global;
 
-/// Writes how the program is used.
-fn put_help<K: Sink>(sink: &mut K) -> Result<(), WriteFault>
-    ensures { Puts result help_text (K.told sink.old) (K.told sink.new) }
-{
-    put_pieces(
-        sink,
-        &[
-            Piece::Text(b"usage: states < STATES\n"),
-            Piece::Text(
-                b"Turns states of nodes from hex digits into words, and back. It reads a\n",
-            ),
-            Piece::Text(b"plan, a line `values V` for each register of a layer, and then lines\n"),
-            Piece::Text(b"`node V H` or `node V number X registers R, R`, and writes the other\n"),
-            Piece::Text(b"form of each.\n"),
-        ],
-    )
-}
+/// How the program is used.
+const HELP: &[u8] = b"usage: states < STATES\n\
+    Turns states of nodes from hex digits into words, and back. It reads a\n\
+    plan, a line `values V` for each register of a layer, and then lines\n\
+    `node V H` or `node V number X registers R, R`, and writes the other\n\
+    form of each.\n";
 
-/// Writes the program's name and version.
-fn put_version<K: Sink>(sink: &mut K) -> Result<(), WriteFault>
-    ensures { Puts result version_text (K.told sink.old) (K.told sink.new) }
-{
-    put_all(sink, b"states 1.0\n")
-}
-
-/// Writes what a single word asks for, as [`tell`] does.
-fn tell_alone<K: Sink>(word: &str, sink: &mut K) -> Result<bool, WriteFault>
-    ensures { Tells (text_alone word.now) (K.told sink.old) (K.told sink.new) result }
-{
-    if word == "--help" {
-        put_help(sink)?;
-        return Ok(true);
-    }
-    if word == "--version" {
-        put_version(sink)?;
-        return Ok(true);
-    }
-    Ok(false)
-}
-
-/// Writes how the program is used where `--help` is the only word, and its name and version where
-/// `--version` is. Answers whether it was one of these; nothing was written where it was neither.
+/// Does what the words ask for: without words the states of the input are turned, and `--help` and
+/// `--version`, alone, ask for what they say.
 ///
-/// `WriteFault` comes only where a text was asked for and the sink counted a fault; a front of the
-/// text was then taken.
-pub fn tell<K: Sink>(words: &[String], sink: &mut K) -> Result<bool, WriteFault>
-    ensures { Tells (text_for (map string_bytes words.now))
-        (K.told sink.old) (K.told sink.new) result }
+/// `Usage` comes exactly if the words ask for nothing. When the other errors come,
+/// [`turn_input`] says.
+pub fn answer<S: Source, K: Sink>(
+    alloc: Global,
+    words: &[String],
+    source: &mut S,
+    sink: &mut K,
+) -> Result<(), StateError>
+    // What was read and written, by how it ended: of states, some text, or the refusal of the first
+    // line of the plan or of the values that fails, or of a line of a state.
+    ensures asked { DoesAsked (map string_bytes words.now) result
+        (S.left source.old) (S.left source.new) (S.faults source.old) (S.faults source.new)
+        (K.told sink.old) (K.told sink.new) }
+    // If nothing was read the source is as it was, whatever it tells.
+    ensures unread { LeavesUnread (asked_of (map string_bytes words.now)) source.old source.new }
+    // At `ReadFault` the end of the source was not met.
+    ensures unmet { IsErrOf result ProgramError.ReadFault → S.met source.new ≡ S.met source.old }
 {
-    match words {
-        [word] => tell_alone(word.as_str(), sink),
-        _ => Ok(false),
+    match asked_by(words, request_of(words)) {
+        Asked::Help => Ok(put_all(sink, HELP)?),
+        Asked::Version => Ok(put_all(sink, b"states 1.0\n")?),
+        Asked::Request(()) => turn_input(alloc, source, sink),
+        Asked::Nothing => Err(ProgramError::Usage),
     }
 }

@@ -1,4 +1,4 @@
-//! Reads how many registers of a layer stand behind those of the plan, and of how many values.
+//! Reads how many registers of a layer stand after those of the plan, and of how many values.
 
 ghost use Rattle.std.specs.Prelude.{◌≡◌, ◌≤◌, ◌^◌, length, IfOk, IfSome};
 ghost use Rattle.texts.specs.Lines.{lines_of};
@@ -13,7 +13,6 @@ ghost use Rattle.states.specs.Values.{
 };
 
 use edge_io::{Lines, Words, is_skipped, numbers_after};
-use thiserror::Error;
 
 /// How many registers a layer has at most.
 const MOST_REGISTERS: usize = 2;
@@ -30,9 +29,8 @@ pub struct Layer {
     pub values: u64,
 }
 
-/// A line begins with the word `values`, and says no register.
-#[derive(Clone, Copy, Debug, PartialEq, Eq, Error)]
-#[error("line {line} should be `values V`, V from 2 to 65536, at most twice and with one V")]
+/// The line of this number begins with the word `values`, and says no register.
+#[derive(Clone, Copy, Debug, PartialEq, Eq)]
 pub struct NotValues {
     pub line: u64,
 }
@@ -47,7 +45,7 @@ fn is_of_values(line: &[u8]) -> bool
     }
 }
 
-/// How many values a line `values V` says, 2 to 65536. None comes exactly where it is no such line.
+/// How many values a line `values V` says, 2 to 65536. None comes exactly if it is no such line.
 fn values_of(line: &[u8]) -> Option<u64>
     ensures { result ≡ values_said line.now }
 {
@@ -59,8 +57,8 @@ fn values_of(line: &[u8]) -> Option<u64>
     Some(values)
 }
 
-/// A layer with one register more, as a line says. None comes where there are two, where the line
-/// is not `values V`, and where an earlier one says another V.
+/// A layer with one register more, as a line says. None comes if there are two, if the line is not
+/// `values V`, and if an earlier one says another V.
 fn with_one_more(layer: Layer, line: &[u8]) -> Option<Layer>
     requires { IsLayer layer }
     ensures value { result ≡ with_one_more layer line.now }
@@ -79,9 +77,9 @@ fn with_one_more(layer: Layer, line: &[u8]) -> Option<Layer>
     })
 }
 
-/// The layer that the lines `values V` at the front of a text say, whose first line has that
+/// The layer that the lines `values V` at the beginning of a text say, whose first line has that
 /// number. Each of them says a register; skipped lines may stand among them. The error comes
-/// exactly where one of them says none, and names the first such line.
+/// exactly if one of them says none, and names the first such line.
 pub fn read_layer(text: &[u8], first: u64) -> Result<Layer, NotValues>
     requires first { first ≤ 2 ^ 32 }
     requires length { length text.now ≤ 2 ^ 32 }

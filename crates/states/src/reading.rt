@@ -4,7 +4,7 @@ use crate::shaped::ShapedState;
 use edge_io::{Words, number};
 use sync_types::Reg;
 
-/// A word without the comma behind it, and whether there is one.
+/// A word without the comma after it, and whether there is one.
 fn without_comma(word: &[u8]) -> (&[u8], bool) {
     match word.split_last() {
         Some((last, front)) => {
@@ -26,7 +26,7 @@ fn value_of(word: &[u8]) -> Option<Option<u64>> {
     Some(Some(number(word)?))
 }
 
-/// Whether the next word is `marked`, and whether a comma stands behind it; no word is no mark.
+/// Whether the next word is `marked`, and whether a comma stands after it; no word is no mark.
 fn next_mark(words: &mut Words<'_>) -> Option<(bool, bool)> {
     let Some(word) = words.next() else {
         return Some((false, false));
@@ -77,15 +77,15 @@ impl ShapedState<'_> {
         false
     }
 
-    /// Reads the number of a node that has one, from the word behind `number`. It answers the word
-    /// behind that.
+    /// Reads the number of a node that has one, from the word after `number`. It answers the word
+    /// after that.
     fn read_number<'w>(&mut self, words: &mut Words<'w>) -> Option<Option<&'w [u8]>> {
         self.state.set_x(number(words.next()?)?);
         Some(words.next())
     }
 
-    /// Reads the state in words, of which `key` is the first, into the zero state. None comes
-    /// where these are not the words of just the fields that the node has.
+    /// Reads the state in words, of which `key` is the first, into the zero state. None comes if
+    /// these are not the words of just the fields that the node has.
     pub fn read_words(&mut self, key: &[u8], words: &mut Words<'_>) -> Option<()> {
         let mut next = Some(key);
         if self.has_number() {

@@ -1,4 +1,7 @@
-use crate::{LONGEST_INPUT, answer};
+use crate::calling::turned;
+use crate::reasons::StateReason;
+use edge_io::MemSink;
+use program_words::{LONGEST_INPUT, ProgramError, Reason};
 use std::alloc::Global;
 use std::test::Fail;
 
@@ -26,7 +29,7 @@ macro_rules! not_a_state {
     };
 }
 
-/// A plan, lines behind it, and their other forms, or why they are refused.
+/// A plan, lines after it, and their other forms, or why they are refused.
 const CASES: [(&str, &str, Result<&str, &str>); 10] = [
     // States without a layer are turned.
     (
@@ -55,6 +58,15 @@ const CASES: [(&str, &str, Result<&str, &str>); 10] = [
     (FOUR, "Values 5\n", Err(not_a_state!(5))),
 ];
 
+/// Whether this is the line of a refusal.
+fn is_line(alloc: Global, reason: StateReason, wanted: &str) -> Result<bool, Fail> {
+    let mut sink = MemSink::new(alloc, 4096, Vec::new(alloc), Vec::new(alloc))?;
+    if reason.put_line(&mut sink).is_err() {
+        return Ok(false);
+    }
+    Ok(sink.taken() == format!(in alloc; "{wanted}\n")?.as_bytes())
+}
+
 /// Whether this is answered to lines behind a plan.
 fn are_answered(
     alloc: Global,
@@ -66,9 +78,10 @@ fn are_answered(
     if input.len() > LONGEST_INPUT {
         return Ok(false);
     }
-    match answer(alloc, input.as_bytes()) {
-        Ok(turned) => Ok(wanted == Ok(turned.as_str())),
-        Err(error) => Ok(wanted == Err(format!(in alloc; "{error}")?.as_str())),
+    match (turned(alloc, input.as_bytes()), wanted) {
+        (Ok(turned), Ok(wanted)) => Ok(turned.as_str() == wanted),
+        (Err(ProgramError::Refused(reason)), Err(wanted)) => is_line(alloc, reason, wanted),
+        _ => Ok(false),
     }
 }
 

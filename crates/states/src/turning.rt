@@ -4,7 +4,7 @@ ghost use Rattle.std.specs.Prelude.{◌<◌, IfOk};
 ghost use Rattle.state_codec.specs.Shapes.{fields_at};
 ghost use Rattle.state_codec.specs.Ranges.{InRange};
 
-use crate::faults::Fault;
+use crate::faults::{Fault, TurnError};
 use crate::shaped::ShapedState;
 use edge_io::{Words, number};
 use state_codec::{NotState, StateShape};
@@ -35,26 +35,33 @@ fn turn_words(
     words: &mut Words<'_>,
     held: &mut ShapedState<'_>,
     out: &mut String,
-) -> Result<(), Fault> {
+) -> Result<(), TurnError> {
     let read = held.read_words(key, words);
     if read.is_none() || words.next().is_some() {
-        return Err(Fault::Fields);
+        return Err(TurnError::Refused(Fault::Fields));
     }
     if !held.is_in_range() {
-        return Err(Fault::Fields);
+        return Err(TurnError::Refused(Fault::Fields));
     }
     write_digits(out, held)?;
     Ok(())
 }
 
 /// Turns digits into words.
-fn turn_digits(digits: &[u8], held: &mut ShapedState<'_>, out: &mut String) -> Result<(), Fault> {
+fn turn_digits(
+    digits: &[u8],
+    held: &mut ShapedState<'_>,
+    out: &mut String,
+) -> Result<(), TurnError> {
     match held.shape.read_hex(held.node, digits, &mut held.state) {
         Ok(()) => {
             held.write_words(out)?;
             Ok(())
         }
-        Err(NotState) => Err(Fault::Hex(2 * held.shape.bytes_of(held.node))),
+        Err(NotState) => {
+            let digits = 2 * held.shape.bytes_of(held.node);
+            Err(TurnError::Refused(Fault::Hex(digits)))
+        }
     }
 }
 
@@ -80,19 +87,24 @@ fn node_of(words: &mut Words<'_>, nodes: u32) -> Result<u32, Fault>
     }
 }
 
-/// Turns a line, and writes the other form behind `out`.
-pub fn turn(alloc: Global, shape: &StateShape, line: &[u8], out: &mut String) -> Result<(), Fault> {
+/// Turns a line, and writes the other form after `out`.
+pub fn turn(
+    alloc: Global,
+    shape: &StateShape,
+    line: &[u8],
+    out: &mut String,
+) -> Result<(), TurnError> {
     let mut words = Words::new(line);
     let v = node_of(&mut words, shape.nodes())?;
     let Some(key) = words.next() else {
-        return Err(Fault::Form);
+        return Err(TurnError::Refused(Fault::Form));
     };
     let mut held = ShapedState::zero(alloc, shape, v)?;
     if key == b"number".as_slice() || key == b"registers".as_slice() {
         return turn_words(key, &mut words, &mut held, out);
     }
     if words.next().is_some() {
-        return Err(Fault::Form);
+        return Err(TurnError::Refused(Fault::Form));
     }
     turn_digits(key, &mut held, out)
 }

@@ -5,7 +5,7 @@ use std::alloc::AllocError;
 use std::fmt::Write;
 use sync_types::Reg;
 
-/// Writes a register, behind what parts it from what stands before.
+/// Writes a register, after what parts it from what stands before.
 fn write_register(out: &mut String, before: &str, reg: Reg) -> Result<(), AllocError> {
     match reg.a {
         Some(value) => write!(out, "{before}{value}")?,

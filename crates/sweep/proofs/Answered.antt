@@ -1,6 +1,5 @@
--- What was written of an input, by what was written of what it is read as.
-use Rattle.std.proofs.Common.{◌≡◌, ℕ, List, Result, Ok, Err, sym, ap, ◌∙◌}
-use Rattle.texts.specs.Growth.{Told}
+-- What is swept of an input, by what is played of it.
+use Rattle.std.proofs.Common.{◌≡◌, ℕ, List, Result, Ok, sym, ap, ◌∙◌}
 use Rattle.answers.specs.ScriptedRuns.{IsScriptedRun}
 use Rattle.construction.specs.Plans.{Plan}
 use Rattle.counter_core.specs.declared.overlays.NoOverlay.{NoOverlay}
@@ -11,37 +10,18 @@ use Rattle.pulse_plan.specs.Plans.{PulseNumbers}
 use Rattle.round_runner.specs.Runners.{Running}
 use Rattle.state_codec.specs.Shapes.{Shape}
 use Rattle.adversary_script.specs.Scripts.{Script}
-use Rattle.sweeps.specs.Sweeps.{Swept, on_plan, on_machine}
+use Rattle.sweep.specs.Sweeps.{Swept, on_plan, on_machine}
 use Rattle.pulse_runs.specs.Readings.{IsReadAs}
 use Rattle.pulse_runs.specs.RunInputs as pulses
-use Rattle.sweep.specs.Conduct.{Answers, SweepsNoise}
 use Rattle.sweep.specs.Inputs.{swept_on_plan, swept_on_pulses}
-use Rattle.sweep.specs.declared.errors.SweepError.{SweepError}
-use Rattle.sweep.specs.declared.errors.SweepError.TheVariants as error
-
-module _ {T : Type 0} (read : Result Swept SweepError) (first count : ℕ) (old new : Told) where
-  -- of a script that was read
-  pub answers_of : (result : Result T SweepError) (swept : Swept) → read ≡ Ok swept
-      → SweepsNoise result swept first count old new → Answers result read first count old new
-  answers_of (Ok value) swept is does =
-      record { swept = swept; is = is; noise = does.0; text = does.1 }
-  answers_of (Err error.WriteFault) swept is does =
-      record { swept = swept; is = is; noise = does.0; text = does.1 }
-  answers_of (Err error.NoNoise) swept is does =
-      (record { swept = swept; is = is; noise = does.0 }, does.1)
-  answers_of (Err error.NoMemory) swept is does = does
-  answers_of (Err (error.Refused refusal)) swept is does = absurd does
-  answers_of (Err (error.PulsesRefused refusal)) swept is does = absurd does
-  answers_of (Err error.Usage) swept is does = absurd does
-  answers_of (Err error.ReadFault) swept is does = absurd does
-  answers_of (Err error.TooLong) swept is does = absurd does
+use Rattle.sweep.specs.declared.reasons.SweepReason.{SweepReason}
 
 -- what the runner of an input plays is what is swept of it
 pub plan_is : (input : List ℕ) (run : Plan × Running NoOverlay) → IsScriptedRun input run
     → swept_on_plan (scripted_of input) ≡ Ok (on_plan run.1.plan run.1.script)
 plan_is input run is =
     ap swept_on_plan is.read
-    ∙ ap (λ (plan : Plan). let r : Result Swept SweepError = Ok (on_plan plan run.1.script) in r)
+    ∙ ap (λ (plan : Plan). let r : Result Swept SweepReason = Ok (on_plan plan run.1.script) in r)
     (sym is.plan_is)
 
 pub pulses_are : (input : List ℕ) (read : PulseNumbers × Shape × Script) → IsReadAs input read
@@ -50,5 +30,5 @@ pub pulses_are : (input : List ℕ) (read : PulseNumbers × Shape × Script) →
     ≡ Ok (on_machine (machine_in r.machine) r.script)
 pulses_are input read is r begun =
     ap swept_on_pulses is.is
-    ∙ ap (λ (r : machine_runs.Running PulseNumbers). let s : Result Swept SweepError =
+    ∙ ap (λ (r : machine_runs.Running PulseNumbers). let s : Result Swept SweepReason =
     Ok (on_machine (machine_in r.machine) r.script) in s) (sym begun)

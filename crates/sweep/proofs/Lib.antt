@@ -1,1 +1,9 @@
+pub mod FirstLocked
+pub mod More
+pub mod Said
+pub mod Texts
+pub mod Tallied
+pub mod SameRun
+pub mod OnMachines
+pub mod DifferentKeys
 pub mod Answered

@@ -1,17 +1,23 @@
--- What is swept of an input, or the refusal of its first line that fails.
+-- The sweep of an input, or why there is none: the refusal of its first line that fails, or that it
+-- says no noise.
 use Rattle.std.specs.Prelude.{ℕ, List, [], ◌∷◌, length, ◌||◌, not, nat_lt, Bool, false, codes}
 use Rattle.std.specs.Prelude.{if◌then◌else◌, Result, Ok, Err}
+use Rattle.std.specs.List.{range_with_len}
 use Rattle.std.specs.Str.{bytes_eq}
 use Rattle.texts.specs.Lines.{lines_of}
 use Rattle.texts.specs.Parts.{is_skipped}
+use Rattle.adversary_script.specs.NoiseSaid.{says_noise}
 use Rattle.outcomes.specs.Inputs.{Scripted, scripted_of}
 use Rattle.outcomes.specs.declared.refusals.Refusal.{Refusal}
+use Rattle.program_words.specs.Conduct.{and_then}
 use Rattle.pulse_plan.specs.Laws.{machine_in}
 use Rattle.pulse_runs.specs.RunInputs as pulses
 use Rattle.pulse_runs.specs.declared.errors.RunRefusal.{RunRefusal}
-use Rattle.sweeps.specs.Sweeps.{Swept, on_plan, on_machine}
-use Rattle.sweep.specs.declared.errors.SweepError.{SweepError}
-use Rattle.sweep.specs.declared.errors.SweepError.TheVariants as error
+use Rattle.sweep.specs.Sweeps.{Swept, on_plan, on_machine}
+use Rattle.sweep.specs.SweepTexts.{sweep_text}
+use Rattle.sweep.specs.declared.requests.Numbers.{Numbers}
+use Rattle.sweep.specs.declared.reasons.SweepReason.{SweepReason}
+use Rattle.sweep.specs.declared.reasons.SweepReason.TheVariants as reason
 
 -- the first line that counts is that of a pulse plan; a line of more than 4096 bytes counts
 abbrev pub begin_pulses : List (List ℕ) → Bool
@@ -23,16 +29,36 @@ begin_pulses (line ∷ lines) =
 abbrev pub is_pulses : (input : List ℕ) → Bool
 is_pulses input = begin_pulses (lines_of input)
 
+-- a plan and a script, or the refusal of one of their lines
+abbrev pub levels_read : Result Scripted Refusal → Result Scripted SweepReason
+levels_read (Ok scripted) = Ok scripted
+levels_read (Err refusal) = Err (reason.Levels refusal)
+
+abbrev pub pulses_read : Result pulses.Scripted RunRefusal → Result pulses.Scripted SweepReason
+pulses_read (Ok scripted) = Ok scripted
+pulses_read (Err refusal) = Err (reason.Pulses refusal)
+
 -- a script on a plan, and on a pulse plan
-abbrev pub swept_on_plan : Result Scripted Refusal → Result Swept SweepError
-swept_on_plan (Err refusal) = Err (error.Refused refusal)
-swept_on_plan (Ok scripted) = Ok (on_plan scripted.plan scripted.script)
+abbrev pub swept_on_plan : Result Scripted Refusal → Result Swept SweepReason
+swept_on_plan read =
+    and_then (levels_read read) (λ scripted. Ok (on_plan scripted.plan scripted.script))
 
-abbrev pub swept_on_pulses : Result pulses.Scripted RunRefusal → Result Swept SweepError
-swept_on_pulses (Err refusal) = Err (error.PulsesRefused refusal)
-swept_on_pulses (Ok scripted) = Ok (on_machine (machine_in scripted.plan) scripted.script)
+abbrev pub swept_on_pulses : Result pulses.Scripted RunRefusal → Result Swept SweepReason
+swept_on_pulses read =
+    and_then (pulses_read read)
+    (λ scripted. Ok (on_machine (machine_in scripted.plan) scripted.script))
 
-abbrev pub swept_of : (input : List ℕ) → Result Swept SweepError
+abbrev pub swept_of : (input : List ℕ) → Result Swept SweepReason
 swept_of input =
     if is_pulses input then swept_on_pulses (pulses.scripted_of input)
     else swept_on_plan (scripted_of input)
+
+-- the text of the sweep of a script on a counter, if the script says noise
+abbrev pub noise_sweep : Numbers → Swept → Result (List ℕ) SweepReason
+noise_sweep numbers swept =
+    if says_noise swept.script
+    then Ok (sweep_text swept (range_with_len numbers.first numbers.count))
+    else Err reason.NoNoise
+
+abbrev pub sweep_of : Numbers → (input : List ℕ) → Result (List ℕ) SweepReason
+sweep_of numbers input = and_then (swept_of input) (noise_sweep numbers)

@@ -1,6 +1,10 @@
-pub mod Asked
+pub mod Keys
+pub mod Progress
+pub mod Sweeps
+pub mod SweepTexts
+pub mod Tallies
 pub mod Conduct
-pub mod Errors
 pub mod HelpText
 pub mod Inputs
+pub mod Reasons
 pub mod Requests

@@ -1,4 +1,4 @@
--- What the words ask for: `FIRST COUNT`, `--help` or `--version`.
+-- What the words ask for: `FIRST COUNT`.
 use Rattle.std.specs.Prelude.{ℕ, ◌+◌, ◌<◌, ◌^◌, List, [], ◌∷◌, ◌||◌, nat_le, nat_lt, Option, Some}
 use Rattle.std.specs.Prelude.{None, codes}
 use Rattle.std.specs.Prelude.{if◌then◌else◌}
@@ -6,39 +6,24 @@ use Rattle.std.specs.Option.{option_map}
 use Rattle.std.specs.Str.{bytes_eq}
 use Rattle.texts.specs.Numbers.{number_of}
 use Rattle.sweep.specs.declared.requests.Numbers.{Numbers}
-use Rattle.sweep.specs.declared.requests.Request.{Request}
-use Rattle.sweep.specs.declared.requests.Request.TheVariants as request
 
--- so many numbers from the first on, where there is one and both have at most 15 digits
+-- so many numbers from the first on, if there is one and both have at most 15 digits
 abbrev pub numbers_with : (first count : ℕ) → Option Numbers
 numbers_with first count =
     if nat_lt count 1 || nat_le (10 ^ 15) first || nat_le (10 ^ 15) count then None
     else Some (record { first = first; count = count })
 
--- the same, where each word is a number
+-- the same, if each word is a number
 abbrev pub numbers_by : (first count : Option ℕ) → Option Numbers
 numbers_by (Some first) (Some count) = numbers_with first count
 numbers_by first count = None
 
--- what a single word asks for
-abbrev pub asked_alone : List ℕ → Option Request
-asked_alone word =
-    if bytes_eq word (codes "--help") then Some request.Help
-    else if bytes_eq word (codes "--version") then Some request.Version
-    else None
-
-abbrev pub request_of : List (List ℕ) → Option Request
+abbrev pub request_of : List (List ℕ) → Option Numbers
 request_of [] = None
-request_of (word ∷ []) = asked_alone word
-request_of (first ∷ count ∷ []) =
-    option_map request.Sweep (numbers_by (number_of first) (number_of count))
+request_of (word ∷ []) = None
+request_of (first ∷ count ∷ []) = numbers_by (number_of first) (number_of count)
 request_of (first ∷ count ∷ more ∷ words) = None
 
--- all of these numbers, and that behind them, are below 2^64
+-- all of these numbers, and that after them, are below 2^64
 abbrev pub AreFew : Numbers → Type 0
 AreFew numbers = numbers.first + numbers.count < 2 ^ 64
-
-abbrev pub HasFewNumbers : Request → Type 0
-HasFewNumbers request.Help = Unit {0}
-HasFewNumbers request.Version = Unit {0}
-HasFewNumbers (request.Sweep numbers) = AreFew numbers

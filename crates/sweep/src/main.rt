@@ -3,39 +3,54 @@
 //! `pulselab run` does, plays the script with COUNT keys, those of the numbers from FIRST on, and
 //! writes the plan's bound, and for each era a line for each first locked configuration that
 //! occurs, with how many runs have it and the least number of these. The key of a number is the
-//! number as 16 hex digits with 48 zeros behind.
+//! number as 16 hex digits, and then 48 zeros.
 //!
 //! `--help` and `--version` write what they say. Other words are answered by one line of usage on
 //! standard error, and what is refused by one line there. The exit codes are those of `counterlab`
 //! and `pulselab`.
-//! Where standard error is a terminal, a line there says how many runs were played; it is wiped
+//! If standard error is a terminal, a line there says how many runs were played; it is wiped
 //! before the sweep is written.
 //!
-//! What is read and written is proved, of [`asking::answer`] and [`errors::put_error`], and that
+//! What is read and written is proved, of [`asking::answer`] and [`program_words::end`], and that
 //! the numbers of that line rise. Which they are and when it comes, that the lines go to standard
 //! error, and whether that is a terminal, is not.
+//!
+//! Sweeps: how soon a script locks, over many keys of its noise.
+//!
+//! [`sweep`] plays a runner's script with each of so many numbers as its key, and writes the
+//! counter's bound, and for each era how many of the runs first lock with which configuration, and
+//! the least number of each. The runs are played in one room, one after the other, each until its
+//! first locked configurations are known. A runner of a plan is [`Sweepable`], and so is one of any
+//! machine. How far it is [`Progress`] may say on a sink of its own.
 #![tactic(auto)]
 
 mod asking;
 mod calling;
-mod errors;
 mod inputs;
+mod keys;
+mod noiseless;
+mod on_machines;
+mod playing;
+mod progress;
+mod reasons;
 mod requests;
+mod sweepable;
+mod sweeping;
+mod tallies;
+mod tallying;
+mod writing;
 
 use crate::asking::answer;
-use crate::errors::{SweepError, put_error};
+use crate::progress::Progress;
+use crate::reasons::SweepError;
 use edge_io::{StdSink, StdSource};
-use program_words::{arguments, words};
+use program_words::{arguments, end, words};
 use std::io::{self, IsTerminal};
 use std::process::ExitCode;
-use sweeps::Progress;
 
 /// Does what the words ask for.
 fn run(rt: &HostRuntime) -> Result<(), SweepError> {
-    let arguments = match arguments(rt) {
-        Ok(arguments) => arguments,
-        Err(_) => return Err(SweepError::NoMemory),
-    };
+    let arguments = arguments(rt)?;
     let mut source = StdSource::new(rt.stdin());
     let mut sink = StdSink::new(io::writer(rt));
     let stderr = rt.stderr();
@@ -51,14 +66,5 @@ fn run(rt: &HostRuntime) -> Result<(), SweepError> {
 }
 
 fn main(rt: HostRuntime) -> ExitCode {
-    match run(&rt) {
-        Ok(()) => ExitCode::SUCCESS,
-        Err(error) => {
-            let stderr = rt.stderr();
-            let mut sink = StdSink::new(io::writer(&stderr));
-            // Where standard error is closed, the code alone says it.
-            let _ = put_error(&mut sink, error);
-            error.exit_code()
-        }
-    }
+    end(&rt, run(&rt))
 }

@@ -42,7 +42,7 @@ pub enum Rule {
     Node,
     /// Ids do not rise.
     Order,
-    /// More nodes are faulty than the plan bears.
+    /// More nodes are faulty than the plan tolerates.
     Faults,
     /// A range ends before it begins, or past what it may reach.
     Range,

@@ -15,7 +15,7 @@ pub struct FaultSet {
     marks: Vec<bool>,
 }
 
-// Written out, so that what lets go of one calls this, and no more.
+// Written out, so that code that drops one has a single call.
 impl Drop for FaultSet {
     fn drop(self) {
         let FaultSet {
@@ -108,7 +108,7 @@ impl FaultSet {
     }
 
     /// Does nothing but tell that the ids rise and are those of nodes.
-    pub fn tell(&self)
+    pub fn facts(&self)
         ensures { AreFaulty self.now }
     {
         let _ids = &self.ids;

@@ -21,7 +21,7 @@ pub struct NodeState {
     registers: Vec<Reg>,
 }
 
-// Written out, so that what lets go of one calls this, and no more.
+// Written out, so that code that drops one has a single call.
 impl Drop for NodeState {
     fn drop(self) {
         let NodeState { x: _, registers } = self;

@@ -1,4 +1,4 @@
--- What follows where one fault was counted.
+-- What follows if one fault was counted.
 use Rattle.std.proofs.Common.{◌≡◌, ℕ, arith}
 use Rattle.texts.specs.Causes.{Counted, Rose}
 

@@ -11,7 +11,7 @@ use Rattle.texts.specs.Words.{open_from, open_rest}
 abbrev place : List ℕ → ℕ
 place text = position_or_len (λ b. eqb b 10) text
 
--- what is whole and what is open, where the first newline stands at n
+-- what is whole and what is open, if the first newline stands at n
 record Parted (front text : List ℕ) (n : ℕ) : Type 0 where
   pub lines : whole_from front text ≡ (front ++ take n text) ∷ whole_lines (drop (n + 1) text)
   pub behind : open_from front text ≡ open_rest (drop (n + 1) text)

@@ -11,7 +11,8 @@ use Rattle.std.proofs.lemmas.List.{take_more}
 use Rattle.std.proofs.lemmas.List.Concat.{flat_map-append}
 use Rattle.std.specs.Io.KnownBytes.{Appends, Keeps, append_known}
 use Rattle.texts.specs.Causes.{Counted}
-use Rattle.texts.specs.Growth.{Told, gathering, Grows, EachGrows, Follows, AppendsFront, last_of}
+use Rattle.texts.specs.Growth.{SinkState, gathering, Grows, EachGrows, Follows, AppendsFront}
+use Rattle.texts.specs.Growth.{last_of}
 use Rattle.texts.specs.Growth.{arrived, IsMissed, Wrote, Cut, Puts}
 
 -- known bytes grow by nothing
@@ -50,18 +51,18 @@ each_grows_then (x ∷ xs) (y ∷ ys) (z ∷ zs) p q = (
 )
 
 -- no write
-pub follows_none : (s : Told) → Follows s s
+pub follows_none : (s : SinkState) → Follows s s
 follows_none s = record { same = refl; grows = each_grows_none s.passed }
 
 -- one change after another
-pub follows_then : (s t u : Told) → Follows s t → Follows t u → Follows s u
+pub follows_then : (s t u : SinkState) → Follows s t → Follows t u → Follows s u
 follows_then s t u p q = record {
   same = q.same ∙ p.same;
   grows = each_grows_then s.passed t.passed u.passed p.grows q.grows;
 }
 
 -- no text was written
-pub wrote_none : (s : Told) → Wrote [] s s
+pub wrote_none : (s : SinkState) → Wrote [] s s
 wrote_none s = record {
   bytes = appends_none s.taken;
   still = refl;
@@ -70,7 +71,7 @@ wrote_none s = record {
 }
 
 -- a text was written and then another
-pub wrote_then : (s t u : Told) (a b : List ℕ) → Wrote a s t → Wrote b t u → Wrote (a ++ b) s u
+pub wrote_then : (s t u : SinkState) (a b : List ℕ) → Wrote a s t → Wrote b t u → Wrote (a ++ b) s u
 wrote_then s t u a b p q =
     record {
       bytes = appends_then s.taken t.taken u.taken a b p.bytes q.bytes;
@@ -103,7 +104,7 @@ missed_held (Some xs) None held q = tt
 missed_held (Some xs) (Some zs) held q =
     let goal : length zs < length (xs ++ held) + 0 = omega (arith, q, length-append xs held) in goal
 
--- where nothing was held back, what is missed is missed of what was passed on
+-- if nothing was held back, what is missed is missed of what was passed on
 missed_behind : (s end : Option (List ℕ)) (text : List ℕ) → IsMissed (append_known s []) end text
     → IsMissed s end text
 missed_behind None end text q = tt
@@ -111,7 +112,7 @@ missed_behind (Some xs) None text q = tt
 missed_behind (Some xs) (Some zs) text q = omega (arith, q, length-append xs [])
 
 -- a cut after a whole write
-pub cut_then : (s t u : Told) (a b : List ℕ) → Wrote a s t → Cut b t u → Cut (a ++ b) s u
+pub cut_then : (s t u : SinkState) (a b : List ℕ) → Wrote a s t → Cut b t u → Cut (a ++ b) s u
 cut_then s t u a b p q = record {
   front = record {
     front = a ++ q.front.front;
@@ -127,7 +128,7 @@ cut_then s t u a b p q = record {
 }
 
 -- a cut of a text is one of any longer text
-pub cut_more : (s t : Told) (a b : List ℕ) → Cut a s t → Cut (a ++ b) s t
+pub cut_more : (s t : SinkState) (a b : List ℕ) → Cut a s t → Cut (a ++ b) s t
 cut_more s t a b q = record {
   front = record {
     front = q.front.front;
@@ -149,7 +150,7 @@ flat_map_at f xs i d lt = ap (flat_map f) (sym (take-append-drop i xs))
     ∙ ap (λ l. flat_map f (take i xs) ++ flat_map f l) (drop_more xs i d lt)
 
 -- the text of a list is cut in its i-th part
-pub cut_at : {X : Type 0} (f : X → List ℕ) (xs : List X) (i : ℕ) (d : X) (s t u : Told)
+pub cut_at : {X : Type 0} (f : X → List ℕ) (xs : List X) (i : ℕ) (d : X) (s t u : SinkState)
     → i < length xs → Wrote (flat_map f (take i xs)) s t → Cut (f (get_or xs i d)) t u
     → Cut (flat_map f xs) s u
 cut_at f xs i d s t u lt p q =
@@ -159,7 +160,7 @@ cut_at f xs i d s t u lt p q =
     (cut_then s t u (flat_map f (take i xs)) (part ++ rest) p (cut_more t u part rest q))
 
 -- one more part of the text of a list
-pub wrote_at : {X : Type 0} (f : X → List ℕ) (xs : List X) (i : ℕ) (d : X) (s t u : Told)
+pub wrote_at : {X : Type 0} (f : X → List ℕ) (xs : List X) (i : ℕ) (d : X) (s t u : SinkState)
     → i < length xs → Wrote (flat_map f (take i xs)) s t → Wrote (f (get_or xs i d)) t u
     → Wrote (flat_map f (take (i + 1) xs)) s u
 wrote_at f xs i d s t u lt p q =
@@ -168,18 +169,18 @@ wrote_at f xs i d s t u lt p q =
     ∙ ap (λ l. flat_map f (take i xs) ++ l) (append-nil (f (get_or xs i d))) in
     rw parts (wrote_then s t u (flat_map f (take i xs)) (f (get_or xs i d)) p q)
 
--- a last call behind a text that was written
-pub puts_then : {T E : Type 0} (r : Result T E) (s t u : Told) (a b : List ℕ) → Wrote a s t
+-- a last call after a text that was written
+pub puts_then : {T E : Type 0} (r : Result T E) (s t u : SinkState) (a b : List ℕ) → Wrote a s t
     → Puts r b t u → Puts r (a ++ b) s u
 puts_then (Ok x) s t u a b p q = wrote_then s t u a b p q
 puts_then (Err e) s t u a b p q = cut_then s t u a b p q
 
 -- the exit of a `?`
-pub puts_exit : {T E : Type 0} (Q : E → Type 0) (r : Result T E) (s t : Told) (a : List ℕ)
+pub puts_exit : {T E : Type 0} (Q : E → Type 0) (r : Result T E) (s t : SinkState) (a : List ℕ)
     → IsErrAnd r Q → Cut a s t → Puts r a s t
 puts_exit Q r s t a h cut = let p = err_from_is_err_and r h in rw p.1 cut
 
--- an empty text has no front but itself
+-- an empty text has no prefix but itself
 nothing_before : (a b : List ℕ) → [] ≡ a ++ b → a ≡ []
 nothing_before [] b e = refl
 nothing_before (x ∷ a) b e = let size : 0 ≡ suc (length (a ++ b)) = ap length e in
@@ -191,8 +192,8 @@ keeps_is None t front e p = tt
 keeps_is (Some xs) None front e p = absurd p
 keeps_is (Some xs) (Some ys) front e p = p ∙ ap (λ (l : List ℕ). xs ++ l) e ∙ append-nil xs
 
--- where no text was to be written, nothing was
-pub cut_nothing : (s t : Told) → Cut [] s t → Keeps s.taken t.taken
+-- if no text was to be written, nothing was
+pub cut_nothing : (s t : SinkState) → Cut [] s t → Keeps s.taken t.taken
 cut_nothing s t p = keeps_is s.taken t.taken p.front.front
     (nothing_before p.front.front p.front.rest p.front.parts) p.front.bytes
 
@@ -218,7 +219,7 @@ appends_held None held more = tt
 appends_held (Some xs) held more = sym (append_assoc xs held more)
 
 -- the sinks behind a gathering one only grow
-gathering_follows : (name : ℕ) (held other : List ℕ) (s t : Told) (more : List ℕ)
+gathering_follows : (name : ℕ) (held other : List ℕ) (s t : SinkState) (more : List ℕ)
     → Appends s.taken t.taken more → Follows s t
     → Follows (gathering name held s) (gathering name other t)
 gathering_follows name held other s t more bytes follows = record {
@@ -228,14 +229,14 @@ gathering_follows name held other s t more bytes follows = record {
 
 -- ---- a sink that gathers what it takes, before it passes it on
 
--- what was passed on is a front of what was taken
+-- what was passed on is a prefix of what was taken
 passed_front : (xs ys held more front : List ℕ) → ys ++ held ≡ xs ++ front → ys ≡ xs ++ more
     → front ≡ more ++ held
 passed_front xs ys held more front p q =
     append_cancel_left xs front (more ++ held) (sym p ∙ ap (λ (l : List ℕ). l ++ held) q
     ∙ append_assoc xs more held)
 
--- a front of the text was passed on, where what was taken is a front of it
+-- a prefix of the text was passed on, if what was taken is a prefix of it
 passed_on : (s u : Option (List ℕ)) (held text : List ℕ)
     → AppendsFront (append_known s []) (append_known u held) text → Grows s u
     → AppendsFront s u text
@@ -258,12 +259,12 @@ tail_of [] = []
 tail_of (x ∷ xs) = xs
 
 -- the sinks behind the one behind only grow
-behind_follows : (name other : ℕ) (held more : List ℕ) (s u : Told)
+behind_follows : (name other : ℕ) (held more : List ℕ) (s u : SinkState)
     → Follows (gathering name held s) (gathering other more u) → Follows s u
 behind_follows name other held more s u p = record { same = ap tail_of p.same; grows = p.grows.1 }
 
--- the sink behind was cut, where the gathering one was
-pub cut_behind : (name other : ℕ) (held text : List ℕ) (s u : Told)
+-- the sink behind was cut, if the gathering one was
+pub cut_behind : (name other : ℕ) (held text : List ℕ) (s u : SinkState)
     → Cut text (gathering name [] s) (gathering other held u) → Cut text s u
 cut_behind name other held text s u p = record {
   front = passed_on s.taken u.taken held text p.front p.follows.grows.0;
@@ -273,7 +274,7 @@ cut_behind name other held text s u p = record {
   follows = behind_follows name other [] held s u p.follows;
 }
 
--- where nothing is held back, all that was taken was passed on
+-- if nothing is held back, all that was taken was passed on
 all_passed : (s u : Option (List ℕ)) (text : List ℕ)
     → Appends (append_known s []) (append_known u []) text → Grows s u → Appends s u text
 all_passed None u text p q = tt
@@ -281,8 +282,8 @@ all_passed (Some xs) None text p q = absurd q.bytes
 all_passed (Some xs) (Some ys) text p q = sym (append-nil ys) ∙ p
     ∙ ap (λ (l : List ℕ). l ++ text) (append-nil xs)
 
--- the sink behind took all, where nothing is held back
-pub wrote_behind : (name other : ℕ) (text : List ℕ) (s u : Told)
+-- the sink behind took all, if nothing is held back
+pub wrote_behind : (name other : ℕ) (text : List ℕ) (s u : SinkState)
     → Wrote text (gathering name [] s) (gathering other [] u) → Wrote text s u
 wrote_behind name other text s u p = record {
   bytes = all_passed s.taken u.taken text p.bytes p.follows.grows.0;
@@ -291,8 +292,8 @@ wrote_behind name other text s u p = record {
   follows = behind_follows name other [] [] s u p.follows;
 }
 
--- the sink behind took a front of what is held back
-pub passed_more : (name n : ℕ) (held : List ℕ) (s t : Told) → n ≤ length held
+-- the sink behind took a prefix of what is held back
+pub passed_more : (name n : ℕ) (held : List ℕ) (s t : SinkState) → n ≤ length held
     → Appends s.taken t.taken (take n held) → t.faults ≡ s.faults → s.certain ≤ t.certain + n
     → Follows s t → Wrote [] (gathering name held s) (gathering name (drop n held) t)
 passed_more name n held s t most bytes still lasts follows = record {
@@ -303,7 +304,7 @@ passed_more name n held s t most bytes still lasts follows = record {
 }
 
 -- the sink behind failed
-pub passed_none : (name : ℕ) (held : List ℕ) (s t : Told) → Keeps s.taken t.taken
+pub passed_none : (name : ℕ) (held : List ℕ) (s t : SinkState) → Keeps s.taken t.taken
     → Counted s.faults t.faults → s.certain ≤ length held → Follows s t
     → IsMissed s.taken (arrived t) held → Cut [] (gathering name held s) (gathering name held t)
 passed_none name held s t keeps cause uncertain follows missed = record {
@@ -320,7 +321,7 @@ passed_none name held s t keeps cause uncertain follows missed = record {
 }
 
 -- bytes are held back
-pub held_more : (name : ℕ) (held more : List ℕ) (s : Told)
+pub held_more : (name : ℕ) (held more : List ℕ) (s : SinkState)
     → Wrote more (gathering name held s) (gathering name (held ++ more) s)
 held_more name held more s = record {
   bytes = appends_held s.taken held more;
@@ -331,7 +332,7 @@ held_more name held more s = record {
 }
 
 -- a text was put and then no more
-pub puts_end : {T E : Type 0} (r : Result T E) (text : List ℕ) (s t u : Told) → Wrote text s t
+pub puts_end : {T E : Type 0} (r : Result T E) (text : List ℕ) (s t u : SinkState) → Wrote text s t
     → Puts r [] t u → Puts r text s u
 puts_end (Ok x) text s t u p q =
     subst (λ (l : List ℕ). Wrote l s u) (append-nil text) (wrote_then s t u text [] p q)
@@ -345,7 +346,8 @@ head_of (x ∷ xs) = x
 -- A text was put into a gathering sink that held nothing, and at Ok it holds nothing again. The
 -- sink behind it was lent to it, and is what stands under the name at the end.
 pub puts_lent : {K T E : Type 0} (told : K
-    → Told) (r : Result T E) (lent other : ℕ) (held text : List ℕ) (s : Told) (now final : K)
+    → SinkState) (r : Result T E) (lent other : ℕ) (held text : List ℕ) (s : SinkState)
+    (now final : K)
     → (lent ≡ other → final ≡ now)
     → Puts r text (gathering lent [] s) (gathering other held (told now)) → OnOk r (held ≡ [])
     → Puts r text s (told final)
@@ -366,7 +368,7 @@ short_by (Some ys) (Some zs) xs text front rest is size bytes missed =
     omega (arith, missed, grown, size)
 
 -- a sink that tells its bytes, and passes none on, took less than all of a text that is cut
-pub cut_short : (s t : Told) (text xs : List ℕ) → s.taken ≡ Some xs → t.passed ≡ []
+pub cut_short : (s t : SinkState) (text xs : List ℕ) → s.taken ≡ Some xs → t.passed ≡ []
     → (cut : Cut text s t) → 0 < length cut.front.rest
 cut_short s t text xs taken last cut =
     short_by s.taken t.taken xs text cut.front.front cut.front.rest taken
@@ -375,11 +377,11 @@ cut_short s t text xs taken last cut =
     cut.missed)
 
 -- a text that is certain to be taken is not cut
-pub never_cut : (s t : Told) (text : List ℕ) → length text < s.certain → Cut text s t → ⊥
+pub never_cut : (s t : SinkState) (text : List ℕ) → length text < s.certain → Cut text s t → ⊥
 never_cut s t text short cut = omega (arith, cut.uncertain)
 
 -- a call that writes a text that is certain to be taken answers Ok
-pub puts_whole : {T E : Type 0} (r : Result T E) (s t : Told) (text : List ℕ)
+pub puts_whole : {T E : Type 0} (r : Result T E) (s t : SinkState) (text : List ℕ)
     → length text < s.certain → Puts r text s t → IsOk r
 puts_whole (Ok x) s t text short puts = search rules
 puts_whole (Err e) s t text short puts = absurd (never_cut s t text short puts)

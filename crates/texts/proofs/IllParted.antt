@@ -14,7 +14,7 @@ either_fails false true h = refl
 either_fails false false (inl e) = absurd cc
 either_fails false false (inr e) = absurd cc
 
--- the test of lines tells
+-- the test finds a line ill parted
 pub ill_parted : (line : List ℕ) → IsIllParted line → is_well_parted line ≡ false
 ill_parted line (inl word) =
     let empty = list_any_at (λ w. length w == 0) (words_of line) word.0 [] word.1 (rw word.2 refl)
@@ -40,7 +40,7 @@ refused_line (Ok found) = 0
 refused_line (Err at) = at.line
 
 module _ {S V R : Type 0} (step : S → List ℕ → Next S V R) (form : R) where
-  -- a line that no state takes refuses the part, where the lines in front don't
+  -- a line that no state takes refuses the part, if the lines before it don't
   refused_behind : (front behind : List (List ℕ)) (line : List ℕ) (s : S) (taken number : ℕ)
       → ((t : S) → step t line ≡ refuses form)
       → part_from step form s taken number front

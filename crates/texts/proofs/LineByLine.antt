@@ -71,7 +71,7 @@ longer_line (b ∷ d ∷ bs) rest some plain =
     onto_longer b (d ∷ bs) ((d ∷ bs) ++ rest) (not-true (eqb b 10) p.0)
     (longer_line (d ∷ bs) rest (omega arith) p.1)
 
--- one line more is left behind
+-- one more line is left behind
 pub behind_line : (n : ℕ) (line rest : List ℕ) → is_one_line line ≡ true
     → behind_lines (suc n) (line ++ 10 ∷ rest) ≡ behind_lines n rest
 behind_line n [] rest plain = refl
@@ -135,13 +135,13 @@ pub whole_open : (line : List ℕ) → is_one_line line ≡ true → whole_lines
 whole_open line plain = whole_none [] line plain
 
 -- The first of the whole lines of a text that begins with bytes without newline has at least these
--- bytes, where there is one.
+-- bytes, if there is one.
 pub record WholeLonger (line text : List ℕ) : Type 0 where
   pub more : List ℕ
   pub lines : List (List ℕ)
   pub first : whole_lines text ≡ (line ++ more) ∷ lines
 
--- what whole lines are there, where so much of the first was read before
+-- what whole lines there are, if so much of the first was read before
 abbrev pub SomeWhole : (acc rest : List ℕ) → Type 0
 SomeWhole acc rest =
     (whole_from acc rest ≡ [])

@@ -15,7 +15,7 @@ last_line : (newline : Bool) (b : ℕ)
 last_line true b = refl
 last_line false b = refl
 
--- the first line of a text with one byte more
+-- the first line of a text with one more byte
 longer_line : (newline : Bool) (b : ℕ) (bs : List ℕ) (n : ℕ)
     → lines_of bs ≡ take n bs ∷ lines_of (drop (n + 1) bs)
     → cond newline ([] ∷ lines_of bs) (onto_first b (lines_of bs))
@@ -25,7 +25,7 @@ longer_line true b bs n e = refl
 longer_line false b bs n e = let k : 1 + n + 1 ≡ suc (n + 1) = omega arith in
     let m : 1 + n ≡ suc n = omega arith in rw (k, m) (ap (onto_first b) e)
 
--- a text is its first line, and the lines behind the first newline
+-- a text is its first line, and the lines after the first newline
 pub lines_of_first : (bs : List ℕ) → 0 < length bs
     → lines_of bs ≡ before_first (λ b. eqb b 10) bs ∷ lines_of (after_first (λ b. eqb b 10) bs)
 lines_of_first [] some = absurd (omega arith)
@@ -86,7 +86,7 @@ pub word_at : (line : List ℕ) (i : ℕ) → position (λ b. eqb b 32) line ≡
 word_at line i e = rw (← found (λ b. eqb b 32) line i e)
     (slice_split_first (λ b. eqb b 32) line 0 (found_in (λ b. eqb b 32) line i e))
 
--- the last word, behind which no space stands
+-- the last word, after which no space stands
 pub word_to_end : (line : List ℕ) → position (λ b. eqb b 32) line ≡ None → words_of line ≡ line ∷ []
 word_to_end line e = slice_split_none (λ b. eqb b 32) line
     (λ k d lt. fails_before_first (λ b. eqb b 32) line k d

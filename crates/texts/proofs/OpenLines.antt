@@ -1,4 +1,4 @@
--- What stands behind the last newline.
+-- What stands after the last newline.
 use Rattle.std.proofs.Common.{◌≡◌, inl, ℕ, zero, suc, Bool, true, false, eqb, List, [], ◌∷◌, ◌++◌}
 use Rattle.std.proofs.Common.{length, refl, ◌∙◌, append_assoc, append-nil, arith}
 use Rattle.texts.specs.Lines.{is_one_line, whole_from, whole_lines}
@@ -7,7 +7,7 @@ use Rattle.texts.specs.Pending.{IsShown}
 use Rattle.texts.specs.Words.{open_from, open_rest}
 use Rattle.texts.proofs.Texts.{cut_again}
 
--- where no line is whole, it is all
+-- if no line is whole, it is all
 abbrev IsAll : (acc bytes : List ℕ) → Type 0
 IsAll acc bytes = whole_from acc bytes ≡ [] → open_from acc bytes ≡ acc ++ bytes
 
@@ -21,7 +21,7 @@ all : (acc bytes : List ℕ) → IsAll acc bytes
 all acc [] none = rw (append-nil acc) refl
 all acc (b ∷ bs) none = all_by acc b bs (eqb b 10) refl (all (acc ++ b ∷ []) bs) none
 
--- else it stands behind so many lines
+-- else it stands after so many lines
 abbrev IsBehindAll : (lines : ℕ) (acc bytes : List ℕ) → Type 0
 IsBehindAll lines acc bytes =
     length (whole_from acc bytes) ≡ lines → open_from acc bytes ≡ behind_lines lines bytes
@@ -53,7 +53,7 @@ open_by : (bytes : List ℕ) (lines : ℕ) → length (whole_lines bytes) ≡ li
 open_by bytes zero none = all [] bytes (none_of (whole_lines bytes) none)
 open_by bytes (suc lines) count = behind lines [] bytes count
 
--- what stands behind the last newline stands behind the whole lines
+-- what stands after the last newline stands after the whole lines
 pub open_behind : (bytes : List ℕ)
     → open_rest bytes ≡ behind_lines (length (whole_lines bytes)) bytes
 open_behind bytes = open_by bytes (length (whole_lines bytes)) refl
@@ -75,6 +75,6 @@ newline_last acc (b ∷ bs) =
 pub newline_shows : (bytes : List ℕ) → IsShown (bytes ++ 10 ∷ [])
 newline_shows bytes = inl (newline_last [] bytes)
 
--- what stands behind the last newline, where none is there
+-- what stands after the last newline, if there is none
 pub open_alone : (line : List ℕ) → is_one_line line ≡ true → open_rest line ≡ line
 open_alone line one = (cut_again [] line tt one).1

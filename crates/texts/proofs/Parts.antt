@@ -3,8 +3,8 @@ use Rattle.std.proofs.Common.{◌≡◌, ℕ, ◌+◌, Bool, true, false, List, 
 use Rattle.std.proofs.Common.{Err, ap, arith}
 use Rattle.std.specs.Prelude.{IfOk, nat_lt, if◌then◌else◌}
 use Rattle.texts.specs.Lines.{is_well_parted}
-use Rattle.texts.specs.Parts.{Next, goes, ends, refuses, Found, At, is_skipped, with_skips}
-use Rattle.texts.specs.Parts.{part_from}
+use Rattle.texts.specs.Parts.{Next, goes, ends, refuses, goes_on, Found, At, is_skipped}
+use Rattle.texts.specs.Parts.{with_skips, part_from}
 
 -- a state that is kept, or a value that is good
 abbrev pub After : {S V R : Type 0} → (S → Type 0) → (V → Type 0) → Next S V R → Type 0
@@ -17,6 +17,13 @@ pub after_if : {S V R : Type 0} (P : S → Type 0) (Q : V → Type 0) (b : Bool)
     → After P Q x → After P Q y → After P Q (if b then x else y)
 after_if P Q true x y h k = h
 after_if P Q false x y h k = k
+
+-- what holds of what is made of a line, a part that goes on with it keeps
+pub goes_on_keeps : {S V R X : Type 0} (P : S → Type 0) (Q : V → Type 0) (make : X → S)
+    (fits : X → Type 0) (read : Result X R) → IfOk read fits → ((x : X) → fits x → P (make x))
+    → After P Q (goes_on make read)
+goes_on_keeps P Q make fits (Ok x) is next = next x is
+goes_on_keeps P Q make fits (Err r) is next = tt
 
 -- what a step keeps of the lines that count, it keeps of all
 pub skips_keep : {S V R : Type 0} (step : S → List ℕ → Next S V R) (form : R)
@@ -48,7 +55,24 @@ module _ {S V R : Type 0} (step : S → List ℕ → Next S V R) (form : R)
       ] in
       cases (step s line) (kept s line p)
 
--- the lines that a part took, and those behind it, are all lines
+-- the same of a part in which lines are skipped, by what each step over a line that counts keeps
+pub skipping_keeps : {S V R : Type 0} (step : S → List ℕ → Next S V R) (form : R)
+    (P : S → Type 0) (Q : V → Type 0)
+    → ((s : S) (line : List ℕ) → P s → After P Q (step s line))
+    → (lines : List (List ℕ)) (s : S) (taken number : ℕ) → P s
+    → IfOk (part_from (with_skips step form) form s taken number lines) (λ found. Q found.value)
+skipping_keeps step form P Q kept =
+    part_keeps (with_skips step form) form P Q
+    (λ s line p. skips_keep step form P Q s line p (kept s line p))
+
+-- what follows from what holds of the value holds too
+pub found_weaker : {V R : Type 0} (P Q : V → Type 0) → ((v : V) → P v → Q v)
+    → (read : Result (Found V) (At R)) → IfOk read (λ found. P found.value)
+    → IfOk read (λ found. Q found.value)
+found_weaker P Q weaker (Ok found) holds = weaker found.value holds
+found_weaker P Q weaker (Err at) holds = tt
+
+-- the lines that a part took, and those after it, are all lines
 module _ {S V R : Type 0} (step : S → List ℕ → Next S V R) (form : R) where
   pub counts_all : (lines : List (List ℕ)) (s : S) (taken number : ℕ) (found : Found V)
       → part_from step form s taken number lines ≡ Ok found

@@ -141,7 +141,7 @@ module _ {S V R : Type 0} (step : S → List ℕ → Next S V R) (form : R) wher
       → full (room, s) line ≡ with_rest (less room line) (step s line)
   shown_made room s line shown = rw shown refl
 
-  -- where lines alone lack an end, a part with more lines behind them comes to these
+  -- if lines alone lack an end, a part with more lines after them comes to these
   goes_by : (first : ℕ) (more lines : List (List ℕ)) (s : S) (taken number : ℕ) (room : Option ℕ)
       → number ≡ first + taken → Fits room (bytes_of lines)
       → part_from full (by form) (None, s) taken number lines
@@ -183,7 +183,7 @@ module _ {S V R : Type 0} (step : S → List ℕ → Next S V R) (form : R) wher
       (sym (line_made full (by form) (None, s) taken number line lines
       (with_rest None (step s line)) refl) ∙ h))
 
-  -- where lines alone are a part, it ends there too
+  -- if lines alone are a part, it ends there too
   ends_by : (more lines : List (List ℕ)) (s : S) (taken number : ℕ) (room : Option ℕ)
       (found : Found (Option ℕ × V)) → Fits room (bytes_of lines)
       → part_from full (by form) (None, s) taken number lines ≡ Ok found
@@ -246,7 +246,7 @@ module _ {S V R : Type 0} (step : S → List ℕ → Next S V R) (form : R) wher
         subst (λ ls. EndsAt found.taken (part_is ls)) (sym (parted split parts rest [] bytes refl))
         (ends_by more (whole_lines bytes) start 0 first (room_of longer left) found fits h)
 
--- where nothing stands behind so many lines, no more are whole
+-- if nothing stands after so many lines, no more are whole
 few_by : (k : ℕ) (acc : List ℕ) (b : ℕ) (bs : List ℕ) (test : Bool) → eqb b 10 ≡ test
     → (behind_lines k bs ≡ [] → length (whole_from [] bs) ≤ k)
     → (behind_lines (suc k) bs ≡ [] → length (whole_from (acc ++ b ∷ []) bs) ≤ suc k)

@@ -28,7 +28,7 @@ abbrev pub ArePlain : List (List ℕ) → Type 0
 ArePlain [] = ⊤
 ArePlain (word ∷ words) = IsPlain word × ArePlain words
 
--- the bytes that the words take, each with one byte behind it
+-- the bytes that the words take, each with one byte after it
 abbrev pub spaced_length : List (List ℕ) → ℕ
 spaced_length [] = 0
 spaced_length (word ∷ words) = length word + 1 + spaced_length words
@@ -103,7 +103,7 @@ no_return (b ∷ line) h =
     let parts = and_parts (nat_le 32 b) (list_all (nat_le 32) line) h in
     rw (is_no_return b parts.0, no_return line parts.1) refl
 
--- joined words are the first line, where a newline stands behind them
+-- joined words are the first line, if a newline stands after them
 pub line_joined : (words : List (List ℕ)) (rest : List ℕ) → ArePlain words
     → lines_of (joined words ++ 10 ∷ rest) ≡ joined words ∷ lines_of rest
 line_joined words rest plain = first_line (joined words) rest (joined_is_line words plain)
@@ -146,7 +146,7 @@ chosen : {X : Type 0} (long skipped parted : Bool) (a b c : X)
 chosen long skipped parted a b c p q r = rw (p, q, r) refl
 
 module _ {S V R : Type 0} (step : S → List ℕ → Next S V R) (form : R) (s : S) where
-  -- a reader steps at joined words, where they make no line that is skipped
+  -- a reader steps at joined words, if they make no line that is skipped
   steps_at_joined : (word : List ℕ) (words : List (List ℕ)) → ArePlain (word ∷ words)
       → spaced_length (word ∷ words) ≤ 4096 → is_skipped (joined (word ∷ words)) ≡ false
       → with_skips step form s (joined (word ∷ words)) ≡ step s (joined (word ∷ words))
@@ -168,7 +168,7 @@ module _ {S V R : Type 0} (step : S → List ℕ → Next S V R) (form : R) (s :
         ≡ Ok (record { value = v; taken = taken + 1; behind = lines })
     step_ends v is = rw (part_from, is) refl
 
--- Reading a line of joined words, with a newline and any text behind it. The words may be printed,
+-- Reading a line of joined words, with a newline and any text after it. The words may be printed,
 -- are few, and make no line that is skipped.
 module _ {S V R : Type 0} (step : S → List ℕ → Next S V R) (form : R)
     (word : List ℕ) (words : List (List ℕ)) (rest : List ℕ)
@@ -178,7 +178,7 @@ module _ {S V R : Type 0} (step : S → List ℕ → Next S V R) (form : R)
   abbrev line : List ℕ
   line = joined (word ∷ words)
 
-  -- it goes on behind the line, where the step goes on
+  -- it goes on after the line, if the step goes on
   pub goes_behind : (t : S) → step s (joined (word ∷ words)) ≡ goes t
       → part_from (with_skips step form) form s taken number
       (lines_of (joined (word ∷ words) ++ 10 ∷ rest))
@@ -189,7 +189,7 @@ module _ {S V R : Type 0} (step : S → List ℕ → Next S V R) (form : R)
       (line_joined (word ∷ words) rest plain)
       ∙ step_goes (with_skips step form) form s line (lines_of rest) taken number t (at ∙ is)
 
-  -- and ends with it, where the step ends
+  -- and ends with it, if the step ends
   pub ends_there : (v : V) → step s (joined (word ∷ words)) ≡ ends v
       → part_from (with_skips step form) form s taken number
       (lines_of (joined (word ∷ words) ++ 10 ∷ rest))

@@ -1,4 +1,4 @@
--- A text is the lines that end with a newline, and what stands behind them.
+-- A text is the lines that end with a newline, and what stands after them.
 use Rattle.std.proofs.Common.{◌≡◌, ℕ, Bool, true, false, cond, eqb, List, [], ◌∷◌, ◌++◌, refl, sym}
 use Rattle.std.proofs.Common.{ap, ◌∙◌, append_assoc}
 use Rattle.std.specs.List.{AllByRecursion}

@@ -4,11 +4,10 @@ use Rattle.std.specs.Prelude.{None, Result, MatchResult}
 use Rattle.std.specs.Io.KnownBytes.{Appends, append_known}
 use Rattle.texts.specs.Causes.{Counted}
 
--- What a sink tells: the bytes that it took (None where it doesn't tell them), how many writes
--- failed, and below which length each text is certain to be taken whole. Of the sinks that it
--- passes its bytes on to, nearest first: the names of the references to them, and the bytes that
--- each took.
-pub record Told : Type 0 where
+-- What a sink tells: the bytes that it took (None if it doesn't tell them), how many writes failed,
+-- and below which length each text is certain to be taken whole. Of the sinks that it passes its
+-- bytes on to, nearest first: the names of the references to them, and the bytes that each took.
+pub record SinkState : Type 0 where
   pub taken : Option (List ℕ)
   pub faults : ℕ
   pub certain : ℕ
@@ -16,7 +15,7 @@ pub record Told : Type 0 where
   pub passed : List (Option (List ℕ))
 
 -- a sink that passes nothing on, and of which nothing is certain
-abbrev pub plainly : Option (List ℕ) → ℕ → Told
+abbrev pub plainly : Option (List ℕ) → ℕ → SinkState
 plainly taken faults = record {
   taken = taken;
   faults = faults;
@@ -26,7 +25,7 @@ plainly taken faults = record {
 }
 
 -- a sink that holds these bytes back, and took all others on to the sink behind that reference
-abbrev pub gathering : ℕ → List ℕ → Told → Told
+abbrev pub gathering : ℕ → List ℕ → SinkState → SinkState
 gathering name held behind = record {
   taken = append_known behind.taken held;
   faults = behind.faults;
@@ -48,11 +47,11 @@ EachGrows (x ∷ xs) [] = ⊥
 EachGrows (x ∷ xs) (y ∷ ys) = Grows x y × EachGrows xs ys
 
 -- the sinks that bytes are passed on to stay the same, and no byte is taken back
-pub record Follows (old new : Told) : Type 0 where
+pub record Follows (old new : SinkState) : Type 0 where
   pub same : new.names ≡ old.names
   pub grows : EachGrows old.passed new.passed
 
--- known bytes grow by a front of the text
+-- known bytes grow by a prefix of the text
 pub record AppendsFront (old new : Option (List ℕ)) (text : List ℕ) : Type 0 where
   pub front : List ℕ
   pub rest : List ℕ
@@ -61,7 +60,7 @@ pub record AppendsFront (old new : Option (List ℕ)) (text : List ℕ) : Type 0
 
 -- the sink took the whole text, and no fault was counted; what was certain before is so still, less
 -- that text
-pub record Wrote (text : List ℕ) (old new : Told) : Type 0 where
+pub record Wrote (text : List ℕ) (old new : SinkState) : Type 0 where
   pub bytes : Appends old.taken new.taken text
   pub still : new.faults ≡ old.faults
   pub lasts : old.certain ≤ new.certain + length text
@@ -72,19 +71,19 @@ abbrev pub last_of : Option (List ℕ) → List (Option (List ℕ)) → Option (
 last_of taken [] = taken
 last_of taken (behind ∷ passed) = last_of behind passed
 
-abbrev pub arrived : Told → Option (List ℕ)
+abbrev pub arrived : SinkState → Option (List ℕ)
 arrived told = last_of told.taken told.passed
 
--- of these bytes and a text behind them, not all came through, where both sinks tell their bytes
+-- of these bytes and a text after them, not all came through, if both sinks tell their bytes
 abbrev pub IsMissed : (taken arrived : Option (List ℕ)) → List ℕ → Type 0
 IsMissed None end text = Unit {0}
 IsMissed (Some xs) None text = Unit {0}
 IsMissed (Some xs) (Some ys) text = length ys < length xs + length text
 
--- One fault was counted, and before it the sink took a front of the text, which was not certain to
--- be taken. Not all of the text came through: where the sink holds nothing back, it took less than
--- all of it.
-pub record Cut (text : List ℕ) (old new : Told) : Type 0 where
+-- One fault was counted, and before it the sink took a prefix of the text, which was not certain to
+-- be taken. Not all of the text came through: if the sink holds nothing back, it took less than all
+-- of it.
+pub record Cut (text : List ℕ) (old new : SinkState) : Type 0 where
   pub front : AppendsFront old.taken new.taken text
   pub missed : IsMissed old.taken (arrived new) text
   pub cause : Counted old.faults new.faults
@@ -92,11 +91,11 @@ pub record Cut (text : List ℕ) (old new : Told) : Type 0 where
   pub follows : Follows old new
 
 -- One write of some of these bytes: it uses up of what was certain no more than it took, and fails
--- only where not all of them were certain to be taken.
-abbrev pub UsesUp : {E : Type 0} → Told → Told → Result ℕ E → List ℕ → Type 0
+-- only if not all of them were certain to be taken.
+abbrev pub UsesUp : {E : Type 0} → SinkState → SinkState → Result ℕ E → List ℕ → Type 0
 UsesUp old new result bytes =
     MatchResult result (λ n. old.certain ≤ new.certain + n) (λ _. old.certain ≤ length bytes)
 
 -- a call that writes this text: at Ok it did, at Err it was cut
-abbrev pub Puts : {T E : Type 0} → Result T E → List ℕ → Told → Told → Type 0
+abbrev pub Puts : {T E : Type 0} → Result T E → List ℕ → SinkState → SinkState → Type 0
 Puts result text old new = MatchResult result (λ _. Wrote text old new) (λ _. Cut text old new)

@@ -8,13 +8,13 @@ use Rattle.texts.specs.Parts.{Next, refuses, is_skipped, with_skips, part_from}
 abbrev pub IsIllParted : List ℕ → Type 0
 IsIllParted line = Contains (words_of line) [] ⊎ Contains line 13
 
--- such a line is refused, where it counts
+-- such a line is refused, if it counts
 abbrev pub IllPartedLineIsRefused : (S V R : Type 0) → Type 0
 IllPartedLineIsRefused S V R =
     (step : S → List ℕ → Next S V R) (form : R) (s : S) (line : List ℕ)
     → is_skipped line ≡ false → IsIllParted line → with_skips step form s line ≡ refuses form
 
--- A part is refused there, where the lines in front neither end it nor are refused: where these
+-- A part is refused there, if the lines before it neither end the part nor are refused: if these
 -- alone would be refused for want of an end.
 abbrev pub IllPartedLineRefusesPart : (S V R : Type 0) → Type 0
 IllPartedLineRefusesPart S V R =

@@ -8,17 +8,17 @@ use Rattle.texts.specs.Parts.{Next, goes, ends, refuses}
 abbrev pub line_cost : List ℕ → ℕ
 line_cost line = min (length line + 1) 4097
 
--- a rule refuses a line, or the byte behind the limit was met before the line was shown
+-- a rule refuses a line, or the byte after the limit was met before the line was shown
 pub data Limited (R : Type 0) : Type 0 where
   by : R → Limited R
   beyond : Limited R
 
--- whether a line is shown, where so many bytes may still be read; None: no byte is behind the limit
+-- whether a line is shown, if so many bytes may still be read; None: no byte is after the limit
 abbrev pub shows : Option ℕ → List ℕ → Bool
 shows None line = true
 shows (Some left) line = nat_le (line_cost line) left
 
--- how many bytes may be read behind a line
+-- how many bytes may be read after a line
 abbrev pub less : Option ℕ → List ℕ → Option ℕ
 less None line = None
 less (Some left) line = Some (left - line_cost line)
@@ -32,7 +32,7 @@ room_of false left = None
 abbrev pub room_in : ℕ → List ℕ → Option ℕ
 room_in limit text = room_of (nat_lt limit (length text)) limit
 
--- a step, with the room behind it
+-- a step, with the room after it
 abbrev pub with_rest : {S V R : Type 0} → Option ℕ → Next S V R
     → Next (Option ℕ × S) (Option ℕ × V) (Limited R)
 with_rest room (goes t) = goes (room, t)
@@ -45,7 +45,7 @@ abbrev pub with_limit : {S V R : Type 0} → (S → List ℕ → Next S V R) →
 with_limit step (room, s) line =
     if shows room line then with_rest (less room line) (step s line) else refuses beyond
 
--- the bytes behind so many lines
+-- the bytes after so many lines
 abbrev pub behind_lines : ℕ → List ℕ → List ℕ
 behind_lines zero bytes = bytes
 behind_lines (suc n) [] = []

@@ -10,6 +10,11 @@ pub data Next (S V R : Type 0) : Type 0 where
   ends : V → Next S V R
   refuses : R → Next S V R
 
+-- it goes on with what is made of a line, or the line is refused
+abbrev pub goes_on : {S V R X : Type 0} → (X → S) → Result X R → Next S V R
+goes_on make (Ok x) = goes (make x)
+goes_on make (Err r) = refuses r
+
 -- an empty line and one that begins with `#`
 abbrev pub is_skipped : List ℕ → Bool
 is_skipped line = length line == 0 || slice_index line 0 == 35
@@ -23,7 +28,7 @@ with_skips step form s line =
     else if is_well_parted line then step s line
     else refuses form
 
--- the value of a part, how many lines it took, and the lines behind it
+-- the value of a part, how many lines it took, and the lines after it
 pub record Found (V : Type 0) : Type 0 where
   pub value : V
   pub taken : ℕ
@@ -35,7 +40,7 @@ pub record At (R : Type 0) : Type 0 where
   pub rule : R
 
 module _ {S V R : Type 0} (step : S → List ℕ → Next S V R) (form : R) where
-  -- Reading from a state on, where that many lines were taken and the next has that number. A part
+  -- Reading from a state on, when that many lines were taken and the next has that number. A part
   -- that lacks its end is refused at the line after the last.
   abbrev pub part_from : S → ℕ → ℕ → List (List ℕ) → Result (Found V) (At R)
   part_from s taken number [] = Err (record { line = number; rule = form })

@@ -5,8 +5,8 @@ use Rattle.std.specs.Prelude.{false, Result, Ok, Err}
 use Rattle.texts.specs.Parts.{Found, At}
 use Rattle.texts.specs.Words.{open_rest}
 
--- The text may go on behind these bytes: the line that is open is not too long, and no byte is
--- behind the limit, where so many were read before.
+-- The text may go on after these bytes: the line that is open is not too long, and no byte is after
+-- the limit, if so many were read before.
 pub record MayGoOn (limit before : ℕ) (bytes : List ℕ) : Type 0 where
   pub short : length (open_rest bytes) ≤ 4096
   pub within : before + length bytes ≤ limit
@@ -23,12 +23,12 @@ abbrev pub IsShown : List ℕ → Type 0
 IsShown bytes = (open_rest bytes ≡ []) ⊎ (length (open_rest bytes) ≡ 4097)
 
 -- What decides is the last byte that was read, with which a line shows, and no byte before it; or,
--- where the end was met, the end, and no byte.
+-- if the end was met, the end, and no byte.
 abbrev pub AtOnce : (ended : Bool) → (Are : List ℕ → Type 0) → List ℕ → Type 0
 AtOnce true Are bytes = Are bytes
 AtOnce false Are bytes = AllButLast Are bytes × IsShown bytes
 
--- the part ends, or is refused, at a line behind so many
+-- the part ends, or is refused, at a line after so many
 abbrev pub IsBehind : {V R : Type 0} → (first lines : ℕ) → Result (Found V) (At R) → Type 0
 IsBehind first lines (Ok found) = lines < found.taken
 IsBehind first lines (Err at) = first + lines ≤ at.line

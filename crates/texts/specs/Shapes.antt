@@ -16,7 +16,17 @@ numbers_of zero (w ∷ ws) = None
 numbers_of (suc n) [] = None
 numbers_of (suc n) (w ∷ ws) = onto_numbers (number_of w) (numbers_of n ws)
 
--- a key, and so many numbers behind it
+-- a key, and so many numbers after it
 abbrev pub numbers_after : List ℕ → ℕ → List (List ℕ) → Option (List ℕ)
 numbers_after key n [] = None
 numbers_after key n (w ∷ ws) = if bytes_eq w key then numbers_of n ws else None
+
+-- all words, each a number
+abbrev pub all_numbers : List (List ℕ) → Option (List ℕ)
+all_numbers [] = Some []
+all_numbers (w ∷ ws) = onto_numbers (number_of w) (all_numbers ws)
+
+-- a key, and all numbers after it
+abbrev pub all_numbers_after : List ℕ → List (List ℕ) → Option (List ℕ)
+all_numbers_after key [] = None
+all_numbers_after key (w ∷ ws) = if bytes_eq w key then all_numbers ws else None

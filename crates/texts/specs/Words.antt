@@ -14,11 +14,11 @@ ended line = line ++ 10 ∷ []
 abbrev pub text_of : List (List ℕ) → List ℕ
 text_of lines = flat_map ended lines
 
--- what stands behind the last newline, where so much was read behind the newline before
+-- what stands after the last newline, if so much was read after the newline before
 abbrev pub open_from : List ℕ → List ℕ → List ℕ
 open_from line [] = line
 open_from line (b ∷ bs) = if b == 10 then open_from [] bs else open_from (line ++ b ∷ []) bs
 
--- what stands behind the last newline of a text: nothing just where each line has its newline
+-- what stands after the last newline of a text: nothing exactly if each line has its newline
 abbrev pub open_rest : List ℕ → List ℕ
 open_rest text = open_from [] text

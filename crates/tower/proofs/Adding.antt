@@ -13,10 +13,10 @@ use Rattle.plan_numbers.proofs.Stacking.{length-levels_in}
 use Rattle.boost_step.proofs.Numbers.{related}
 use Rattle.shared_board.specs.GroupVotes.{AreNumbers}
 use Rattle.shared_board.specs.Groups.{Group, groups_of}
-use Rattle.shared_board.proofs.GroupStretches.{range_two}
+use Rattle.shared_board.proofs.Passing.{range_two}
 use Rattle.tower.proofs.Descent.{top_numbers, top_sized, levels_are, size_is, group_nodes}
 
--- the groups of one block more
+-- the groups of one more block
 pub blocks_more : (f : ℕ → List Group) (old now new : List Group) (b : ℕ)
     → now ≡ old ++ flat_map f (range_with_len 0 b) → new ≡ now ++ f b
     → new ≡ old ++ flat_map f (range_with_len 0 (b + 1))
@@ -47,7 +47,7 @@ module _ (base : ℕ) (xs items : List LevelNums) (top : LevelNums) (e : xs ≡ 
       let size = ap (λ m. top.blocks * m) same in
       omega (arith, room, all, whole, inner, same, size, small)
 
-  -- behind the group at the top those of all blocks are those of the levels
+  -- after the group at the top those of all blocks are those of the levels
   pub all_added : (first n b : ℕ) (old after now : List Group) → n ≡ block_nodes top
       → after ≡ old ++ record {
         level = level_of top;

@@ -12,7 +12,7 @@ use Rattle.plan_numbers.specs.Premises.{IsAccepted}
 use Rattle.plan_numbers.proofs.LevelLaws.{levels_in-numbers_of, length-numbers_of}
 use Rattle.tower.specs.Kept.{IsKept}
 
--- one item more of a list
+-- one more item of a list
 pub take_next : {X : Type 0} (xs : List X) (i : ℕ) (x : X) → slice_get xs i ≡ Some x
     → take (i + 1) xs ≡ take i xs ++ x ∷ []
 take_next xs i x is =

@@ -1,6 +1,6 @@
 -- The step of a group, as the code comes by it: the register at the group's level, and below that
--- the step in a block, or nothing where the node is a spare.
-use Rattle.std.proofs.Common.{◌≡◌, ℕ, ◌+◌, ◌-◌, ◌*◌, ◌/◌, ◌%◌, ◌<◌, ◌≤◌, ◌^◌, Bool, true, false}
+-- the step in a block, or nothing if the node is a spare.
+use Rattle.std.proofs.Common.{◌≡◌, ℕ, ◌+◌, ◌-◌, ◌*◌, ◌/◌, ◌%◌, ◌<◌, ◌≤◌, Bool, true, false}
 use Rattle.std.proofs.Common.{cond, ltb, List, [], ◌∷◌, ◌++◌, IfSome, All, length, map, take, set}
 use Rattle.std.proofs.Common.{refl, sym, ap, ap₂, ◌∙◌, subst, arith}
 use Rattle.std.proofs.Math.Nat.{mod-lt}
@@ -18,22 +18,13 @@ use Rattle.construction.proofs.Blocks.{block_some, length-block}
 use Rattle.construction.proofs.Ranges.{length-step_in}
 use Rattle.plan_numbers.specs.declared.numbers.LevelNums.{LevelNums}
 use Rattle.plan_numbers.specs.Numbers.{below_of, level_of, levels_in}
-use Rattle.plan_numbers.specs.Premises.{LevelsAccepted}
 use Rattle.plan_numbers.specs.Sizes.{IsSizedLevel, block_nodes}
 use Rattle.plan_numbers.specs.Stacked.{AreLevels}
-use Rattle.plan_numbers.proofs.Accepted.{accepted_sized}
 use Rattle.plan_numbers.proofs.Stacking.{levels_in_push, length-levels_in, parts, top_is}
 use Rattle.counter_core.specs.Meanings.{written}
 use Rattle.boost_step.specs.Numbers.{AreNumbers, in_blocks}
 use Rattle.boost_step.proofs.Stepping.{register_written}
 use Rattle.plan_laws.specs.PlanMeaning.{InRange, IsWithin}
-
--- an accepted base is within the limits
-pub base_limits : (base : ℕ) (levels : List Level) → LevelsAccepted base levels
-    → (2 ≤ base) × (base ≤ 2 ^ 40)
-base_limits base [] accepted =
-    let sized = accepted_sized base [] accepted in (sized.least_modulus, sized.most_modulus)
-base_limits base (level ∷ below) (accepted, none) = base_limits base below accepted
 
 -- the top level's numbers apart from those of the levels below
 module _ (base : ℕ) (xs items : List LevelNums) (top : LevelNums) (e : xs ≡ items ++ top ∷ [])
@@ -130,7 +121,7 @@ module _ (base : ℕ) (xs items : List LevelNums) (top : LevelNums) (e : xs ≡ 
       ap (λ ls. step_in base ls place group) levels_are
       ∙ (ap (λ n. by n (length lower)) (sym size_is) ∙ ap (by size) (length-levels_in items))
 
-  -- the top register, put behind what is written below it
+  -- the top register, put after what is written below it
   with_top : (place : ℕ) (group : List State) (low out inner new : State) (r : Reg) (inside : Bool)
       → ltb place (top.blocks * size) ≡ inside → low ≡ below_top inside place group
       → length low.registers ≡ depth → depth < length out.registers → inner ≡ written depth low out

@@ -1,60 +1,64 @@
--- Registers behind those of the levels matter to no step, whoever lies.
-use Rattle.std.proofs.Common.{◌≡◌, ℕ, ◌<◌, Bool, true, false, if◌then◌else◌, List, length, map}
-use Rattle.std.proofs.Common.{refl, sym, ap, ◌∙◌, arith}
-use Rattle.std.specs.List.{range_with_len}
-use Rattle.std.proofs.lemmas.List.{length-map, get_or-map, take-take}
-use Rattle.std.proofs.lemmas.List.FromFn.{length-map-range_with_len}
-use Rattle.std.proofs.lemmas.Simd.{map-map}
+-- Registers after those of the levels matter to no step, whoever lies.
+use Rattle.std.proofs.Common.{◌≡◌, ℕ, ◌<◌, Bool, true, false, cond, List, length, map, refl, sym}
+use Rattle.std.proofs.Common.{ap}
+use Rattle.std.proofs.Common.{◌∙◌, arith}
+use Rattle.std.proofs.lemmas.List.{ext_get_or, length-map, take-take}
+use Rattle.std.proofs.lemmas.List.FromFn.{length-map-range_with_len, get_or-map-range_with_len}
+use Rattle.sync_types.specs.declared.states.Reg.{Reg}
 use Rattle.sync_types.specs.FaultSets.{is_in}
 use Rattle.sync_types.specs.States.{State, zero_state}
-use Rattle.construction.specs.Plans.{Plan, plan_nodes, plan_depth}
+use Rattle.construction.specs.Plans.{Plan, plan_depth}
 use Rattle.construction.specs.Steps.{state_of, step_of}
 use Rattle.counter_core.specs.Meanings.{cut}
-use Rattle.plan_numbers.specs.Premises.{IsAccepted}
-use Rattle.plan_laws.proofs.PlanCounter.{plan_ignores}
+use Rattle.plan_laws.proofs.Ranges.{state_of-cut, step_of-cut}
 use Rattle.shared_board.specs.Sharing.{place_among, heard_at, heard_with}
-use Rattle.shared_board.proofs.GroupStretches.{same_range}
 
--- cut twice
-cut_again : (d : ℕ) (s : State) → cut d (cut d s) ≡ cut d s
-cut_again d s = ap (λ rs. record { x = s.x; registers = rs })
-    (take-take d d s.registers (omega arith))
+-- one place of what is heard with lies
+pub with_at : (ids : List ℕ) (lies config : List State) (u : ℕ) → u < length config
+    → state_of (heard_with ids lies config) u ≡ heard_at ids lies config u
+with_at ids lies config u lt =
+    get_or-map-range_with_len (heard_at ids lies config) 0 (length config) u u (zero_state 0) lt
+    (omega arith)
 
-module _ (d : ℕ) (faulty : List ℕ) (lies config : List State) where
-  node_same : (u : ℕ) → u < length config
-      → cut d (heard_at faulty lies (map (cut d) config) u) ≡ cut d (heard_at faulty lies config u)
-  node_same u lt = by (is_in faulty u)
-    where
-      by : (t : Bool) → cut d
-          (if t then state_of lies (place_among faulty u) else state_of (map (cut d) config) u)
-          ≡ cut d (if t then state_of lies (place_among faulty u) else state_of config u)
-      by true = refl
-      by false = ap (cut d) (get_or-map (cut d) config u (zero_state 0) (zero_state 0) lt)
-          ∙ cut_again d (state_of config u)
+-- a step does not see what is cut off
+module _ (plan : Plan) (v : ℕ) (ids : List ℕ) (lies config : List State) where
+  abbrev depth : ℕ
+  depth = plan_depth plan
 
-  all_same : map (cut d) (heard_with faulty lies (map (cut d) config))
-      ≡ map (cut d) (heard_with faulty lies config)
-  all_same =
-      let n : ℕ = length config in
-      ap (λ k. map (cut d) (map (heard_at faulty lies (map (cut d) config)) (range_with_len 0 k)))
-      (length-map config (cut d))
-      ∙ (map-map (cut d) (heard_at faulty lies (map (cut d) config)) (range_with_len 0 n)
-      ∙ (same_range (λ u. cut d (heard_at faulty lies (map (cut d) config) u))
-      (λ u. cut d (heard_at faulty lies config u)) n 0 (λ u le lt. node_same u (omega arith))
-      ∙ sym (map-map (cut d) (heard_at faulty lies config) (range_with_len 0 n))))
+  cut_again : (s : State) → cut depth (cut depth s) ≡ cut depth s
+  cut_again s = ap (λ (registers : List Reg). let t : State =
+      record { x = s.x; registers = registers } in t)
+      (take-take depth depth s.registers (omega arith))
 
--- a step from the states without them is the step
-pub without_further : (plan : Plan) → IsAccepted plan
-    → (node : ℕ) (faulty : List ℕ) (lies config : List State)
-    → node < plan_nodes plan → length config ≡ plan_nodes plan
-    → step_of plan node (heard_with faulty lies (map (cut (plan_depth plan)) config))
-    ≡ step_of plan node (heard_with faulty lies config)
-without_further plan accepted node faulty lies config lt size =
-    let d : ℕ = plan_depth plan in
-    let ignores = plan_ignores plan accepted in
-    let long : (config : List State) → length (heard_with faulty lies config) ≡ length config =
-    λ config. length-map-range_with_len (heard_at faulty lies config) 0 (length config) in
-    sym (ignores.next node (heard_with faulty lies (map (cut d) config)) lt
-    (long (map (cut d) config) ∙ (length-map config (cut d) ∙ size)))
-    ∙ (ap (step_of plan node) (all_same d faulty lies config)
-    ∙ ignores.next node (heard_with faulty lies config) lt (long config ∙ size))
+  choice_cut : (b : Bool) (told s : State)
+      → cut depth (cond b told (cut depth s)) ≡ cut depth (cond b told s)
+  choice_cut true told s = refl
+  choice_cut false told s = cut_again s
+
+  abbrev with_cut : List State
+  with_cut = heard_with ids lies (map (cut depth) config)
+
+  cut_same : map (cut depth) with_cut ≡ map (cut depth) (heard_with ids lies config)
+  cut_same =
+      let long = length-map config (cut depth) in
+      let first = length-map with_cut (cut depth) in
+      let second = length-map (heard_with ids lies config) (cut depth) in
+      let first_long = length-map-range_with_len (heard_at ids lies (map (cut depth) config)) 0
+      (length (map (cut depth) config)) in
+      let second_long = length-map-range_with_len (heard_at ids lies config) 0 (length config) in
+      ext_get_or (zero_state 0) (map (cut depth) with_cut)
+      (map (cut depth) (heard_with ids lies config))
+      (omega (arith, long, first, second, first_long, second_long)) (λ u lt.
+      let inside : u < length config = omega (arith, lt, long, first, first_long) in
+      state_of-cut depth with_cut u
+      ∙ ap (cut depth) (with_at ids lies (map (cut depth) config) u (omega (arith, inside, long))
+      ∙ ap (λ (s : State). cond (is_in ids u) (state_of lies (place_among ids u)) s)
+      (state_of-cut depth config u))
+      ∙ choice_cut (is_in ids u) (state_of lies (place_among ids u)) (state_of config u)
+      ∙ ap (cut depth) (sym (with_at ids lies config u inside))
+      ∙ sym (state_of-cut depth (heard_with ids lies config) u))
+
+  pub step_cut : step_of plan v with_cut ≡ step_of plan v (heard_with ids lies config)
+  step_cut =
+      sym (step_of-cut plan v with_cut) ∙ ap (step_of plan v) cut_same
+      ∙ step_of-cut plan v (heard_with ids lies config)

@@ -1,122 +1,84 @@
 -- The lies that a shared round heeds, by what it keeps and what it stands for.
-use Rattle.std.proofs.Common.{◌≡◌, ℕ, ◌+◌, ◌-◌, ◌<◌, ◌≤◌, Bool, true, if◌then◌else◌, List, []}
+use Rattle.std.proofs.Common.{◌≡◌, ℕ, ◌+◌, ◌-◌, ◌<◌, ◌≤◌, Bool, true, List}
 use Rattle.std.proofs.Common.{length, get_or, sym, ap, ◌∙◌, subst, arith}
 use Rattle.std.proofs.lemmas.List.{get_or_default}
-use Rattle.std.proofs.lemmas.List.FromFn.{length-map-range_with_len}
 use Rattle.counting.proofs.Places.{shorter}
 use Rattle.sync_types.specs.FaultSets.{is_in}
 use Rattle.sync_types.specs.States.{State}
-use Rattle.construction.specs.Plans.{Plan, nodes_of, low_of, plan_nodes, plan_depth}
+use Rattle.construction.specs.Plans.{Plan, low_of, plan_nodes}
 use Rattle.construction.specs.Steps.{state_of, step_of}
 use Rattle.counter_core.specs.Meanings.{cut}
 use Rattle.plan_numbers.specs.declared.numbers.LevelNums.{LevelNums}
 use Rattle.plan_numbers.specs.Numbers.{levels_in}
 use Rattle.shared_board.specs.Sharing.{Shares, Tells, heard_with, place_among}
-use Rattle.shared_board.specs.Groups.{Group, group_at, index_at, nodes_in}
+use Rattle.shared_board.specs.Groups.{Group, group_at, nodes_in}
 use Rattle.shared_board.proofs.Ids.{places_of_all}
 use Rattle.shared_board.proofs.Nested.{IsWithin, groups_nest}
 use Rattle.shared_board.specs.Boards.{Board, AreLiars}
 use Rattle.tower.specs.declared.rows.Row.{Row}
-use Rattle.tower.specs.Rows.{IsRow}
 use Rattle.tower.specs.Placings.{Placing, key_of}
 use Rattle.tower.specs.Heeding.{LeadsIn, AreShut}
-use Rattle.tower.specs.Sharing.{IsShared, plan_of, shares_of}
-use Rattle.tower.proofs.Made.{is_made, made_states}
+use Rattle.tower.specs.Sharing.{IsShared, shares_of}
+use Rattle.tower.proofs.Standing.{HasNode, has_node}
 use Rattle.tower.proofs.Stepped.{place_less, key_is, groups_fit}
 use Rattle.tower.proofs.Heeding.{settled_shut, leads_in, step_alike}
 
-module _ (version base : ℕ) (items : List LevelNums) (rows : List Row) (made : Bool) (board : Board)
-    (groups : List Placing) (all_settled : Bool) (now : Shares) (node : ℕ)
-    (row : Row)
+module _ {version base : ℕ} {items : List LevelNums} {rows : List Row} {made : Bool} {board : Board}
+    {groups : List Placing} {all_settled : Bool} {now : Shares} {plan : Plan} {node : ℕ} {row : Row}
     (kept : IsShared version base items rows made board groups all_settled)
-    (stands : shares_of version base items made board ≡ now)
-    (size : length now.states ≡ plan_nodes now.plan) (some : node < plan_nodes now.plan)
+    (stands : shares_of version base items made board ≡ now) (whose : now.plan ≡ plan)
+    (size : length now.states ≡ plan_nodes plan) (some : node < plan_nodes plan)
     (at : row ≡ get_or rows node row) where
-  plan_is : plan_of version base items ≡ now.plan
-  plan_is = ap (λ (s : Shares). s.plan) stands
-
-  within : node < nodes_of (levels_in items)
-  within = subst (λ (p : Plan). node < plan_nodes p) (sym plan_is) some
-
-  was_made : made ≡ true
-  was_made =
-      let shown : length (if made then board.states else []) ≡ nodes_of (levels_in items) =
-      ap (λ (s : Shares). length s.states) stands ∙ (size ∙ sym (ap plan_nodes plan_is)) in
-      is_made made board.states (nodes_of (levels_in items)) shown (omega (arith, within))
-
-  states_are : board.states ≡ now.states
-  states_are = sym (made_states made board.states was_made) ∙ ap (λ (s : Shares). s.states) stands
-
-  faulty_are : board.faulty ≡ now.faulty
-  faulty_are = ap (λ (s : Shares). s.faulty) stands
-
-  is_row : IsRow (levels_in items) node row
-  is_row = subst (IsRow (levels_in items) node) (sym at) (kept.are_rows.each node row within)
-
-  pub deep : length row.places.items ≡ length (levels_in items)
-  deep = ap length is_row.indices
-      ∙ length-map-range_with_len (index_at (levels_in items) node) 0 (length (levels_in items))
+  has : HasNode version base items made board now plan node row
+  has = has_node kept stands whose size some at
 
   -- the row leads the node to its group of each level
   pub leads : (l : ℕ) → l < length row.places.items → row.low ≤ l + 1
       → LeadsIn board row node groups l
-  leads l lt has =
+  leads l lt low =
       leads_in (levels_in items) board groups kept.size kept.depth kept.keys kept.ready
-      (kept.stand was_made)
-      row node is_row within l (omega (arith, lt, deep)) has
+      (kept.stand has.was_made)
+      row node has.is_row has.within l (omega (arith, lt, has.deep)) low
 
-  -- where all groups are settled the node hangs on nothing
+  -- if all groups are settled, the node hangs on nothing
   pub all_shut : all_settled ≡ true → AreShut board row node groups 0
-  all_shut all = λ l none le short has.
+  all_shut all = λ l none le short low.
       let i : ℕ = get_or row.places.items l 0 in
-      let lead = leads l short has in
+      let lead = leads l short low in
       settled_shut board node (get_or groups i none) (lead.1 none) (kept.settled all i none lead.0)
 
-  -- what it says of what the node tells itself, as the board has it
+  -- what the node says to itself, as the board has it
   own_state : (lies : List State) → Tells now node lies → is_in board.faulty node ≡ true
       → cut board.depth (state_of lies (place_among board.faulty node)) ≡ state_of board.states node
   own_state lies tells liar =
       ap (λ d. cut d (state_of lies (place_among board.faulty node))) kept.depth
-      ∙ (ap (λ ids. cut (length (levels_in items)) (state_of lies (place_among ids node)))
-      faulty_are
-      ∙ (ap (λ (p : Plan). cut (plan_depth p) (state_of lies (place_among now.faulty node))) plan_is
-      ∙ (tells.own (subst (λ ids. is_in ids node ≡ true) faulty_are liar)
-      ∙ ap (λ ss. state_of ss node) (sym states_are))))
-
-  -- the step by what is kept is that by what it stands for
-  same_step : (lies : List State)
-      → step_of (plan_of version base items) node (heard_with board.faulty lies board.states)
-      ≡ step_of now.plan node (heard_with now.faulty lies now.states)
-  same_step lies =
-      ap (λ (p : Plan). step_of p node (heard_with board.faulty lies board.states)) plan_is
-      ∙ (ap (λ ids. step_of now.plan node (heard_with ids lies board.states)) faulty_are
-      ∙ ap (λ ss. step_of now.plan node (heard_with now.faulty lies ss)) states_are)
+      ∙ has.own lies tells liar
 
   module _ (liars : AreLiars (length board.states) board.faulty) (n : ℕ)
       (shut : AreShut board row node groups n) where
-    -- where all open groups stand between two nodes, the lies of the liars there are enough
+    -- if all open groups stand between two nodes, the lies of the liars there are enough
     enough : (from to : ℕ) → from ≤ to → to ≤ length board.states
         → ((l : ℕ) → l < n → l < length (levels_in items) → low_of (levels_in items) node ≤ l + 1
         → IsWithin (group_at (levels_in items) 0 node l) from to)
         → (lies told : List State) → Tells now node lies → Tells now node told
         → ((j : ℕ) → place_among board.faulty from ≤ j → j < place_among board.faulty to
         → state_of lies j ≡ state_of told j)
-        → step_of now.plan node (heard_with now.faulty lies now.states)
-        ≡ step_of now.plan node (heard_with now.faulty told now.states)
+        → step_of plan node (heard_with now.faulty lies now.states)
+        ≡ step_of plan node (heard_with now.faulty told now.states)
     enough from to order fits inner lies told tells tells_too alike =
         let long : (ls : List State) → Tells now node ls → length ls ≡ length board.faulty =
-        λ ls t. t.size ∙ sym (ap length faulty_are) in
-        sym (same_step lies)
+        λ ls t. t.size ∙ sym (ap length has.faulty_are) in
+        sym (has.step lies)
         ∙ (step_alike (levels_in items) board groups kept.size kept.depth kept.keys kept.ready row
-        node is_row within liars
+        node has.is_row has.within liars
         lies told (long lies tells) (long told tells_too) (own_state lies tells)
         (own_state told tells_too)
-        n from to order fits alike deep shut inner version base
-        ∙ same_step told)
+        n from to order fits alike has.deep shut inner version base
+        ∙ has.step told)
 
     pub none_heeded : n ≡ 0 → (lies told : List State) → Tells now node lies → Tells now node told
-        → step_of now.plan node (heard_with now.faulty lies now.states)
-        ≡ step_of now.plan node (heard_with now.faulty told now.states)
+        → step_of plan node (heard_with now.faulty lies now.states)
+        ≡ step_of plan node (heard_with now.faulty told now.states)
     none_heeded none lies told tells tells_too =
         enough 0 0 (omega arith) (omega arith)
         (λ l lt short low. absurd (omega (arith, lt, none))) lies told tells tells_too
@@ -125,10 +87,10 @@ module _ (version base : ℕ) (items : List LevelNums) (rows : List Row) (made :
   module _ (n : ℕ) (order : n ≤ length row.places.items) (lowest : row.low ≤ n) (some_open : 0 < n)
       (i : ℕ) (i_is : i ≡ get_or row.places.items (n - 1) i) where
     top : n - 1 < length (levels_in items)
-    top = omega (arith, order, deep, some_open)
+    top = omega (arith, order, has.deep, some_open)
 
-    has : row.low ≤ n - 1 + 1
-    has = omega (arith, lowest, some_open)
+    low_top : row.low ≤ n - 1 + 1
+    low_top = omega (arith, lowest, some_open)
 
     place_is : i ≡ get_or row.places.items (n - 1) 0
     place_is = i_is ∙ get_or_default row.places.items (n - 1) i 0 (omega (arith, order, some_open))
@@ -136,8 +98,8 @@ module _ (version base : ℕ) (items : List LevelNums) (rows : List Row) (made :
     pub place_fits : i < length groups
     place_fits =
         let less = place_less
-        (levels_in items) board groups kept.size kept.depth kept.keys kept.ready row node is_row
-        within (n - 1) top has in
+        (levels_in items) board groups kept.size kept.depth kept.keys kept.ready row node has.is_row
+        has.within (n - 1) top low_top in
         omega (arith, less, place_is)
 
     module _ (p : Placing) (is : p ≡ get_or groups i p) where
@@ -155,8 +117,8 @@ module _ (version base : ℕ) (items : List LevelNums) (rows : List Row) (made :
           let key : key_of p ≡ group_at (levels_in items) 0 node (n - 1) =
           ap key_of (is ∙ ap (λ k. get_or groups k p) place_is)
           ∙ key_is (levels_in items) board groups kept.size kept.depth kept.keys kept.ready row
-          node is_row within (n - 1) top has p in
-          let nest = groups_nest (levels_in items) 0 node l (n - 1) within
+          node has.is_row has.within (n - 1) top low_top p in
+          let nest = groups_nest (levels_in items) 0 node l (n - 1) has.within
           (omega (arith, lt)) top low in
           let first = ap (λ (g : Group). g.first) key in
           let count = ap nodes_in key in
@@ -173,8 +135,8 @@ module _ (version base : ℕ) (items : List LevelNums) (rows : List Row) (made :
           → last ≡ place_among board.faulty (p.group.first + p.group.nums.nodes)
           → (lies told : List State) → Tells now node lies → Tells now node told
           → ((j : ℕ) → first ≤ j → j < last → state_of lies j ≡ state_of told j)
-          → step_of now.plan node (heard_with now.faulty lies now.states)
-          ≡ step_of now.plan node (heard_with now.faulty told now.states)
+          → step_of plan node (heard_with now.faulty lies now.states)
+          ≡ step_of plan node (heard_with now.faulty told now.states)
       some_heeded liars shut first last begins ends lies told tells tells_too same =
           enough liars n shut p.group.first (p.group.first + p.group.nums.nodes)
           (omega arith) group_fits inner lies told tells tells_too
@@ -201,6 +163,6 @@ module _ (version base : ℕ) (items : List LevelNums) (rows : List Row) (made :
               shorter (is_in board.faulty) end
                   (length board.states) group_fits,
               all,
-              ap length faulty_are,
+              ap length has.faulty_are,
             ),
           )

@@ -1,5 +1,5 @@
 -- The step of a node hangs on the lies of the widest group that is open to it: above it no register
--- hangs on what is told, and the groups below it are some of its nodes.
+-- hangs on lies, and the groups below it are some of its nodes.
 use Rattle.std.proofs.Common.{◌≡◌, ℕ, ◌+◌, ◌<◌, ◌≤◌, Bool, true, false, if◌then◌else◌, List, []}
 use Rattle.std.proofs.Common.{◌∷◌, ◌++◌, length, map, drop, get_or, All, Option, Some, None, IfSome}
 use Rattle.std.proofs.Common.{sym, ap, ◌∙◌, subst, ⊎_elim, arith}
@@ -38,7 +38,7 @@ bare depth s =
     ap (λ rs. record { x = s.x; registers = s.registers ++ rs }) (drop-nil depth)
     ∙ ap (λ rs. record { x = s.x; registers = rs }) (append-nil s.registers)
 
--- a node that tells itself its own state tells itself its register of each level
+-- a node that says its own state to itself says its register of each level to itself
 tells_itself : (b : Board) (h : ℕ) (lies : List State) (node : ℕ) → node < length b.states
     → h < b.depth
     → (is_in b.faulty node ≡ true
@@ -61,7 +61,7 @@ some_holds : (P : ℕ → Type 0) (o : Option ℕ) (value : ℕ) → o ≡ Some 
 some_holds P None value e h = absurd (cc)
 some_holds P (Some a) value e h = subst P (cc) h
 
--- nothing that is told moves a register of a settled group
+-- no lie moves a register of a settled group
 pub settled_shut : (b : Board) (node : ℕ) (p : Placing) → Holds b node p → p.group.is_settled ≡ true
     → IsShut b node p
 settled_shut b node p holds is = λ lies told is_lies is_told own_lies own_told.

@@ -7,6 +7,7 @@ pub mod Adding
 pub mod Indices
 pub mod Taken
 pub mod Made
+pub mod Standing
 pub mod Further
 pub mod Heeding
 pub mod Heeded

@@ -1,4 +1,4 @@
--- Where each group is settled as it was counted, each group of the plan is.
+-- If each group is settled as it was counted, each group of the plan is.
 use Rattle.std.proofs.Common.{◌≡◌, ℕ, ◌+◌, ◌<◌, ◌≤◌, true, List, length, map, get_or, All, IfSome}
 use Rattle.std.proofs.Common.{sym, ◌∙◌, subst, arith}
 use Rattle.std.proofs.lemmas.List.{get_or-map}

@@ -1,23 +1,8 @@
 -- Sums of what is the same of each item.
-use Rattle.std.proofs.Common.{◌≡◌, ℕ, ◌+◌, List, [], ◌∷◌, map, All, refl, sym, ap, ◌∙◌, arith}
+use Rattle.std.proofs.Common.{◌≡◌, ℕ, List, [], ◌∷◌, map, All, refl, arith}
 use Rattle.std.specs.List.{sum_by}
 use Rattle.std.proofs.lemmas.List.Sums.{sum_by-cons}
 use Rattle.std.proofs.lemmas.List.Elements.{All-head, All-tail}
-
--- a sum by a function is the sum of its values
-pub sum_of_values : {X : Type 0} → (f : X → ℕ) (xs : List X)
-    → sum_by f xs ≡ sum_by (λ n. n) (map f xs)
-sum_of_values f [] = refl
-sum_of_values f (x ∷ xs) =
-    sum_by-cons f x xs
-    ∙ (ap (λ n. f x + n) (sum_of_values f xs)
-    ∙ sym (sum_by-cons (λ n. n) (f x) (map f xs)))
-
-pub same_sum : {X Y : Type 0} → (f : X → ℕ) (g : Y → ℕ) (xs : List X) (ys : List Y)
-    → map f xs ≡ map g ys
-    → sum_by f xs ≡ sum_by g ys
-same_sum f g xs ys same = sum_of_values f xs
-    ∙ (ap (sum_by (λ n. n)) same ∙ sym (sum_of_values g ys))
 
 -- a sum over what items are mapped to
 pub sum_mapped : {X Y : Type 0} → (f : X → ℕ) (g : Y → ℕ) (h : X → Y) (xs : List X)

@@ -1,4 +1,4 @@
--- When the new register of a node hangs on nothing that it is told.
+-- When the new register of a node hangs on no lie.
 use Rattle.std.specs.Prelude.{◌≡◌, ℕ, ◌+◌, ◌<◌, ◌≤◌, List, length, slice_index_or}
 use Rattle.sync_types.specs.States.{State}
 use Rattle.shared_board.specs.Senders.{IsTold, TellsItself}
@@ -21,7 +21,7 @@ LeadsIn board row node groups l =
     (place < length groups)
     × ((none : Placing) → Holds board node (slice_index_or groups place none))
 
--- all lies leave one register to a node of the group, as long as it tells itself its own
+-- all lies leave one register to a node of the group, as long as it says its own to itself
 abbrev pub IsShut : Board → (node : ℕ) → Placing → Type 0
 IsShut board node placed =
     let s = sent_of board placed.height in
@@ -29,7 +29,7 @@ IsShut board node placed =
     → TellsItself s lies node → TellsItself s told node
     → register_by board node lies placed ≡ register_by board node told placed
 
--- so it is at each level that stands above so many, where the row leads the node to a group
+-- so it is at each level that stands above so many, if the row leads the node to a group
 abbrev pub AreShut : Board → Row → (node : ℕ) → List Placing → (count : ℕ) → Type 0
 AreShut board row node groups count =
     (l : ℕ) (none : Placing) → count ≤ l → l < length row.places.items → row.low ≤ l + 1

@@ -57,7 +57,7 @@ abbrev pub register_by : Board → (node : ℕ) → (lies : List State) → Plac
 register_by board node lies placed =
     register_heard (sent_of board placed.height) placed.group.nums placed.group.first node lies
 
--- the new register of a node at a level: that of its group, or zero where it has none
+-- the new register of a node at a level: that of its group, or zero if it has none
 abbrev pub row_register : Board → Row → (node : ℕ) → (lies : List State) → List Placing → (l : ℕ)
     → Reg
 row_register board row node lies groups l =

@@ -1,4 +1,4 @@
--- What liars tell a node.
+-- What liars say to a node.
 use Rattle.std.specs.Prelude.{◌≤◌, List, length, All}
 use Rattle.sync_types.specs.States.{State}
 use Rattle.construction.specs.Plans.{Plan, plan_depth}

@@ -85,7 +85,7 @@ impl Placed {
         ensures same { self.new ≡ self.old }
         ensures steps { steps.new ≤ steps.old + 3 * length board.now.faulty }
     {
-        board.tell();
+        board.facts();
         if let Some(register) = self.group.common_register() {
             return register;
         }
@@ -93,7 +93,7 @@ impl Placed {
         self.group.register(&senders, node, lies, steps)
     }
 
-    /// Whether the new register of a node of the group may hang on what it is told.
+    /// Whether the new register of a node of the group may hang on lies.
     fn is_open(&self, board: &Board, node: usize) -> bool
         requires { Holds board.now node self.now }
         ensures { result ≡ false → IsShut board.now node self.now }
@@ -113,7 +113,7 @@ impl Placed {
         ensures last { result.1 ≡ place_among board.now.faulty
             (self.now.group.first + self.now.group.nums.nodes) }
     {
-        board.tell();
+        board.facts();
         let first = self.group.first;
         let end = first + self.group.nums.nodes as usize;
         (board.liars_below(first), board.liars_below(end))
@@ -134,7 +134,7 @@ fn push(groups: &mut Vec<Placed>, placed: Placed) -> Result<(), NoMemory>
 }
 
 /// Adds the groups of levels, the lowest of which stands first, from a first node on: that of the
-/// top level, and behind it those of its first block, those of its second one, and so on.
+/// top level, and after it those of its first block, those of its second one, and so on.
 pub(crate) fn add_groups(
     alloc: Global,
     levels: &[LevelNums],
@@ -188,7 +188,7 @@ pub(crate) fn gather_groups<G: Ledger>(
     all_settled
 }
 
-/// The new register of a node at a level: in its group, or none where the node has none there.
+/// The new register of a node at a level: in its group, or none if the node has none there.
 fn register_at<G: Ledger>(
     board: &Board,
     row: &Row,
@@ -213,7 +213,7 @@ fn register_at<G: Ledger>(
 }
 
 /// How many of the lowest `levels` levels stand up to the highest one at which the group of a node
-/// is open to what it is told; 0 where none is.
+/// is open to lies; 0 if none is.
 pub(crate) fn open_levels(
     board: &Board,
     row: &Row,

@@ -2,15 +2,14 @@
 //!
 //! A [`Tower`] is seen as its plan. Its step is the plan's, from the top level down to the node's
 //! lowest, and it is a [`counter_core::Counter`]: whatever the start and the lies of a faulty set
-//! that the plan bears, it counts from the plan's bound on.
+//! that the plan tolerates, it counts from the plan's bound on.
 //!
-//! Where all nodes step from one configuration, a [`Shared`] is gathered once a round: it counts
-//! the correct nodes for all receivers, so that each receiver adds what the liars tell it alone.
-//! Its step is the plan's too.
+//! If all nodes step from one configuration, a [`Shared`] is gathered once a round: it counts the
+//! correct nodes for all receivers, so that each receiver adds only what the liars say to it. Its
+//! step is the plan's too.
 #![tactic(auto)]
 
 mod groups;
-pub mod laws;
 mod registers;
 mod rows;
 mod settled;

@@ -2,21 +2,7 @@ ghost use Rattle.std.specs.Prelude.{◌≡◌, ◌≤◌, take, map, length, All
 ghost use Rattle.construction.specs.Shown.{shown};
 ghost use Rattle.counter_core.specs.Working.{IsFor, IsAsRoomy};
 
-use counter_core::{Heard, Work};
-use sync_types::NodeState;
-
-/// What a state shows over so many levels: its number where there are none, else the value of the
-/// top one's register, 0 where that is infinite.
-pub(crate) fn shown_over(levels: usize, state: &NodeState) -> u64
-    requires { levels ≤ length state.now.registers }
-    ensures { result ≡ shown levels state.now }
-{
-    if levels == 0 {
-        state.x()
-    } else {
-        state.reg(levels - 1).a.unwrap_or(0)
-    }
-}
+use counter_core::{Heard, Work, shown};
 
 /// Puts what the first `nodes` nodes of a group show over so many levels into the workspace, by
 /// place.
@@ -29,6 +15,6 @@ pub fn set_outputs(levels: usize, nodes: u32, group: &Heard<'_>, work: &mut Work
     ensures work { IsAsRoomy work.old work.new }
 {
     for place in 0..nodes {
-        work.set_inner(place, shown_over(levels, group.state(place)));
+        work.set_inner(place, shown(levels, group.state(place)));
     }
 }

@@ -8,9 +8,9 @@ ghost use Rattle.plan_laws.specs.PlanMeaning.{IsInRange};
 ghost use Rattle.shared_board.specs.Sharing.{heard_with, stands_for, Tells};
 ghost use Rattle.tower.specs.Told.{AreTold};
 
-use crate::groups::{add_groups, gather_groups};
+use crate::groups::{add_groups, gather_groups, open_levels, write_registers};
 use crate::rows::rows_of;
-use crate::shared::{Shared, after};
+use crate::shared::Shared;
 use crate::towers::Tower;
 use counter_core::Counter;
 use majority_votes::Steps;
@@ -30,6 +30,14 @@ fn copy_levels(alloc: Global, levels: &[LevelNums]) -> Result<Vec<LevelNums>, No
         copy.push(*nums).unwrap();
     }
     Ok(copy)
+}
+
+/// The number after a number that is below the base.
+fn after(x: u64, base: u64) -> u64
+    requires { x < base }
+    ensures { result ≡ up base x }
+{
+    if x + 1 == base { 0 } else { x + 1 }
 }
 
 impl Tower {
@@ -82,43 +90,58 @@ impl Tower {
         ensures cost { steps.new ≤ steps.old
             + 3 * plan_depth self.now * (plan_nodes self.now - length faulty.now.ids) }
     {
-        faulty.tell();
+        faulty.facts();
         shared.board.take(config, faulty);
         shared.all_settled = gather_groups(&shared.board, &mut shared.groups, steps);
         shared.is_made = true;
     }
 
-    /// The step of a node, by what the liars tell it: `lies` has a state of each, in the order of
+    /// The step of a node, by what the liars say to it: `lies` has a state of each, in the order of
     /// their ids, that of the node itself being its own. It writes the number and a register for
     /// each level, and leaves the other registers of `out`. It takes no memory, and at most three
     /// steps a level for each liar; `shared` stands for the same afterwards.
     pub fn advance_shared<G: Ledger>(
         &self,
         node: u32,
-        config: &Packed,
         lies: &[NodeState],
         shared: &mut Shared,
         out: &mut NodeState,
         steps: &mut Steps<G>,
     )
-        requires stands { shared.old ≡ stands_for self.now config.now.current shared.old.faulty }
-        requires size { length config.now.current ≡ plan_nodes self.now }
+        requires plan { shared.old.plan ≡ self.now }
+        requires size { length shared.old.states ≡ plan_nodes self.now }
         requires node { node < plan_nodes self.now }
         requires tells { Tells shared.old node lies.now }
         requires told { AreTold self.now lies.now }
         requires out { plan_depth self.now ≤ length out.old.registers }
-        ensures out { out.new ≡ written (plan_depth self.now) (step_of self.now node
-            (heard_with shared.old.faulty lies.now config.now.current)) out.old }
+        ensures out { (config : List State) (faulty : List ℕ)
+            → shared.old ≡ stands_for self.now config faulty
+            → out.new ≡ written (plan_depth self.now) (step_of self.now node
+            (heard_with faulty lies.now config)) out.old }
         ensures same { shared.new ≡ shared.old }
         ensures cost { steps.new ≤ steps.old + 3 * plan_depth self.now * length shared.old.faulty }
     {
-        self.tell();
-        shared.step(node, lies, out, steps);
+        let row = &shared.rows[node as usize];
+        let next = if row.low == 0 {
+            after(shared.board.number(node as usize), shared.base)
+        } else {
+            0
+        };
+        out.set_x(next);
+        write_registers(
+            &shared.board,
+            row,
+            node as usize,
+            lies,
+            &mut shared.groups,
+            out,
+            steps,
+        );
     }
 
     /// The liars, as a stretch of the faulty list from the first place to before the second, on
-    /// which the step of a node hangs: what the others tell it may be anything.
-    pub fn heeded(&self, node: u32, shared: &Shared) -> (usize, usize)
+    /// which the step of a node depends: what the others say to it may be anything.
+    pub fn relevant_liars(&self, node: u32, shared: &Shared) -> (usize, usize)
         requires plan { shared.now.plan ≡ self.now }
         requires size { length shared.now.states ≡ plan_nodes self.now }
         requires node { node < plan_nodes self.now }
@@ -129,6 +152,21 @@ impl Tower {
             step_of self.now node (heard_with shared.now.faulty lies shared.now.states)
             ≡ step_of self.now node (heard_with shared.now.faulty told shared.now.states) }
     {
-        shared.heeded(node)
+        shared.board.facts();
+        let row = &shared.rows[node as usize];
+        if shared.all_settled {
+            return (0, 0);
+        }
+        let open = open_levels(
+            &shared.board,
+            row,
+            row.places.len(),
+            node as usize,
+            &shared.groups,
+        );
+        if open == 0 {
+            return (0, 0);
+        }
+        shared.groups[row.places[open - 1]].liars(&shared.board)
     }
 }

@@ -26,7 +26,7 @@ pub(crate) fn nodes_over(levels: &[LevelNums]) -> u32
 
 /// The step of the node at a place of a group of these levels, the lowest of which stands first, by
 /// what the node hears of the group: its register at the group's level, and below that its step in
-/// its block, or nothing where it is a spare.
+/// its block, or nothing if it is a spare.
 pub(crate) fn step_in(
     base: u64,
     levels: &[LevelNums],

@@ -7,9 +7,8 @@ ghost use Rattle.plan_laws.specs.PlanMeaning.{plan_meaning, IsInRange};
 ghost use Rattle.plan_laws.proofs.PlanCounter.{plan_sizes, plan_stays, plan_ignores, plan_zero};
 ghost use Rattle.plan_laws.proofs.RunLaws.{plan_settles};
 
-use crate::registers::shown_over;
 use crate::steps::step_in;
-use counter_core::{Counter, Heard, Work};
+use counter_core::{Counter, Heard, Work, shown};
 use plan_numbers::{Below, LevelNums, Plan, low_in};
 use std::alloc::Global;
 use std::marker::Model;
@@ -46,7 +45,7 @@ pub fn build(alloc: Global, plan: &Plan) -> Result<Tower, NoMemory>
     ensures plan { IfOk result (λ tower. tower ≡ plan.now) }
     ensures settles { IfOk result (λ tower. Settles tower) }
 {
-    plan.tell();
+    plan.facts();
     let mut levels = Vec::with_capacity(alloc, plan.depth())?;
     for i in 0..plan.depth() {
         levels.push(*plan.level(i)).unwrap();
@@ -114,7 +113,7 @@ impl Counter for Tower {
     }
 
     fn output(&self, _place: u32, state: &NodeState) -> u64 {
-        shown_over(self.levels.len(), state)
+        shown(self.levels.len(), state)
     }
 
     fn advance(&self, place: u32, heard: &Heard<'_>, work: &mut Work, out: &mut NodeState) {

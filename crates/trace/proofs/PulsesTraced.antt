@@ -1,9 +1,8 @@
 -- What is answered to a pulse plan and a script, and to an input that is read as them.
 use Rattle.std.proofs.Common.{◌≡◌, ℕ, ◌<◌, ◌≤◌, Bool, true, false, List, Result, Ok, Err}
-use Rattle.std.proofs.Common.{refl, sym, ap, ap₂, ◌∙◌, subst}
+use Rattle.std.proofs.Common.{refl, sym, ap, ap₂, ◌∙◌}
 use Rattle.std.specs.Prelude.{not, nat_lt, if◌then◌else◌}
 use Rattle.std.proofs.lemmas.Bool.{lt-ltb, le-ltb}
-use Rattle.texts.specs.Growth.{Told}
 use Rattle.texts.specs.Lines.{lines_of}
 use Rattle.adversary_script.specs.Scripts.{Script}
 use Rattle.machine_runner.specs.Runners.{Running, begun}
@@ -13,34 +12,33 @@ use Rattle.pulse_plan.specs.Plans.{PulseNumbers}
 use Rattle.pulse_runs.specs.Readings.{IsReadAs}
 use Rattle.pulse_runs.specs.RunInputs as pulses
 use Rattle.pulse_runs.specs.declared.errors.RunRefusal.{RunRefusal}
-use Rattle.pulse_traces.specs.TraceTexts.{trace_text}
+use Rattle.traces.specs.PulseTraceTexts.{trace_text}
 use Rattle.state_codec.specs.Shapes.{Shape}
-use Rattle.trace_words.specs.declared.wants.Want.{Want}
-use Rattle.trace.specs.declared.errors.TraceError.{TraceError}
-use Rattle.trace.specs.declared.errors.TraceError.TheVariants as error
+use Rattle.traces.specs.declared.wants.Want.{Want}
+use Rattle.trace.specs.declared.reasons.TraceReason.{TraceReason}
+use Rattle.trace.specs.declared.reasons.TraceReason.TheVariants as reason
 use Rattle.trace.specs.Answers.{fails_at_first, levels_trace_or, pulses_trace, trace_by, trace_of}
-use Rattle.trace.specs.Conduct.{Answers}
 use Rattle.trace.specs.Names.{are_nodes, named_nodes}
 
 module _ (want : Want) (words : List (List ℕ)) (plan : PulseNumbers) (script : Script) where
-  abbrev pub answer : Result (List ℕ) TraceError
+  abbrev pub answer : Result (List ℕ) TraceReason
   answer = pulses_trace want words (record { plan = plan; script = script })
 
   by_tests : (late all : Bool) → nat_lt script.rounds want.last ≡ late
       → are_nodes words plan.nodes ≡ all
-      → answer ≡ (if late then Err error.NotPlayed
-      else if not all then Err error.NoNode
+      → answer ≡ (if late then Err reason.NotPlayed
+      else if not all then Err reason.NoNode
       else Ok (trace_text plan script (named_nodes words plan.nodes) want.first want.last))
   by_tests late all e e' =
-      ap₂ (λ (late all : Bool). if late then Err error.NotPlayed
-      else if not all then Err error.NoNode
+      ap₂ (λ (late all : Bool). if late then Err reason.NotPlayed
+      else if not all then Err reason.NoNode
       else Ok (trace_text plan script (named_nodes words plan.nodes) want.first want.last)) e e'
 
-  pub not_played : script.rounds < want.last → answer ≡ Err error.NotPlayed
+  pub not_played : script.rounds < want.last → answer ≡ Err reason.NotPlayed
   not_played lt = by_tests true (are_nodes words plan.nodes) (lt-ltb _ _ lt) refl
 
   pub no_node : want.last ≤ script.rounds → are_nodes words plan.nodes ≡ false
-      → answer ≡ Err error.NoNode
+      → answer ≡ Err reason.NoNode
   no_node le none = by_tests false false (le-ltb _ _ le) none
 
   pub traced : want.last ≤ script.rounds → (ids : List ℕ)
@@ -51,12 +49,6 @@ module _ (want : Want) (words : List (List ℕ)) (plan : PulseNumbers) (script :
       ∙ ap (λ (ids : List ℕ). Ok (trace_text plan script ids want.first want.last)) (sym named.1)
 
 -- ---- what is answered to an input, by what it is read as
-
--- what was written of an answer was written of its equal
-pub answers_as : {T : Type 0} (result : Result T TraceError) (a b : Result (List ℕ) TraceError)
-    (s t : Told) → b ≡ a → Answers result a s t → Answers result b s t
-answers_as result a b s t e =
-    subst (λ (x : Result (List ℕ) TraceError). Answers result x s t) (sym e)
 
 module _ (want : Want) (words : List (List ℕ)) (input : List ℕ) where
   pub of_read : (read : PulseNumbers × Shape × Script) → IsReadAs input read
@@ -73,11 +65,11 @@ module _ (want : Want) (words : List (List ℕ)) (input : List ℕ) where
       → fails_at_first (first_unskipped 1 (lines_of input)) refusal ≡ at_first
       → trace_of want words input
       ≡ (if at_first then levels_trace_or want words (scripted_of input)
-      else Err (error.PulsesRefused refusal))
+      else Err (reason.Pulses refusal))
   of_refused refusal is at_first e =
       ap (trace_by want words (first_unskipped 1 (lines_of input)) input) is
       ∙ ap (λ (b : Bool). if b then levels_trace_or want words (scripted_of input)
-      else Err (error.PulsesRefused refusal)) e
+      else Err (reason.Pulses refusal)) e
 
   -- it is no pulse plan
   pub of_levels : (refusal : RunRefusal) → pulses.scripted_of input ≡ Err refusal
@@ -88,5 +80,5 @@ module _ (want : Want) (words : List (List ℕ)) (input : List ℕ) where
   -- it is refused as one of a pulse plan
   pub refused : (refusal : RunRefusal) → pulses.scripted_of input ≡ Err refusal
       → fails_at_first (first_unskipped 1 (lines_of input)) refusal ≡ false
-      → trace_of want words input ≡ Err (error.PulsesRefused refusal)
+      → trace_of want words input ≡ Err (reason.Pulses refusal)
   refused refusal is = of_refused refusal is false

@@ -1,58 +1,40 @@
 -- What is written of an input, by what was read of it.
-use Rattle.std.proofs.Common.{◌≡◌, ℕ, ◌<◌, ◌≤◌, Bool, true, false, List, length, Result, Ok, Err}
+use Rattle.std.proofs.Common.{◌≡◌, ℕ, ◌<◌, ◌≤◌, Bool, true, false, List, Result, Ok, Err}
 use Rattle.std.proofs.Common.{refl, sym, ap, ap₂, ◌∙◌, subst}
 use Rattle.std.specs.Prelude.{not, nat_lt, if◌then◌else◌}
 use Rattle.std.specs.Result.{IsErrAnd}
 use Rattle.std.proofs.lemmas.Bool.{lt-ltb, le-ltb}
-use Rattle.std.proofs.lemmas.Result.{err_from_is_err_and}
-use Rattle.texts.specs.Growth.{Told, Cut}
+use Rattle.texts.specs.Growth.{SinkState}
 use Rattle.construction.specs.Plans.{Plan, plan_nodes, plan_depth}
 use Rattle.state_codec.specs.Shapes.{Shape}
 use Rattle.state_codec.proofs.Plans.{depth_of_shape}
 use Rattle.counter_core.specs.declared.overlays.NoOverlay.{NoOverlay}
 use Rattle.round_runner.specs.Runners.{Running}
 use Rattle.outcomes.specs.Inputs.{scripted_of}
-use Rattle.answers.specs.declared.errors.Unanswered.{Unanswered}
-use Rattle.answers.specs.declared.errors.Unanswered.TheVariants as end
-use Rattle.answers.specs.Readings.{Refuses}
 use Rattle.answers.specs.ScriptedRuns.{IsScriptedRun}
-use Rattle.traces.specs.declared.desks.Desk.{Desk}
-use Rattle.trace_words.specs.declared.wants.Want.{Want}
+use Rattle.traces.specs.declared.desks.TraceBuffers.{TraceBuffers}
+use Rattle.traces.specs.declared.wants.Want.{Want}
 use Rattle.traces.specs.Desks.{IsFitFor, IsMade}
 use Rattle.traces.specs.TraceTexts.{trace_text}
 use Rattle.traces.specs.Wants.{IsToTrace}
-use Rattle.trace.specs.declared.errors.TraceError.{TraceError}
-use Rattle.trace.specs.declared.errors.TraceError.TheVariants as error
-use Rattle.trace.specs.Answers.{levels_trace_or}
-use Rattle.trace.specs.Conduct.{Answers}
-use Rattle.trace.specs.Errors.{scripted_error}
+use Rattle.program_words.proofs.Answered.{answers_fails, fails_then}
+use Rattle.program_words.specs.Conduct.{Answers, FailsAs}
+use Rattle.program_words.specs.declared.errors.ProgramError.{ProgramError}
+use Rattle.trace.specs.declared.reasons.TraceReason.{TraceReason}
+use Rattle.trace.specs.declared.reasons.TraceReason.TheVariants as reason
+use Rattle.trace.specs.Answers.{levels_read, levels_trace, levels_trace_or}
 use Rattle.trace.specs.Names.{are_nodes, named_nodes}
 
--- ---- the exit of a `?`
-
-module _ {T : Type 0} (want : Want) (words : List (List ℕ)) (input : List ℕ) where
-  by_error : (result : Result T TraceError) (e : Unanswered) (s : Told)
-      → Refuses e (scripted_of input) → result ≡ Err (scripted_error e)
-      → Answers result (levels_trace_or want words (scripted_of input)) s s
-  by_error result end.NoMemory s h is = rw is refl
-  by_error result (end.Refused refusal) s h is = rw is (ap (levels_trace_or want words) h, refl)
-  by_error result end.WriteFault s h is = absurd h
-
-  -- behind a reading that failed
-  pub unread : (result : Result T TraceError) (e : Unanswered) (s : Told)
-      → Refuses e (scripted_of input) → IsErrAnd result (λ given. given ≡ scripted_error e)
-      → Answers result (levels_trace_or want words (scripted_of input)) s s
-  unread result e s h given =
-      let p = err_from_is_err_and result given in
-      by_error result e s h (p.1 ∙ ap (λ (x : TraceError). Err x) p.2)
-
--- behind a write that failed
-pub unwritten : {T : Type 0} (result : Result T TraceError) (answer : Result (List ℕ) TraceError)
-    (text : List ℕ) (s t : Told) → answer ≡ Ok text → IsErrAnd result (λ e. e ≡ error.WriteFault)
-    → Cut text s t → Answers result answer s t
-unwritten result answer text s t is given cut =
-    let p = err_from_is_err_and result given in
-    rw (p.1, p.2) (record { text = text; traced = is; has = cut })
+-- after a reading that failed
+pub unread : {T : Type 0} (want : Want) (words : List (List ℕ)) (input : List ℕ)
+    (result : Result T (ProgramError TraceReason)) (e : ProgramError TraceReason) (s : SinkState)
+    → FailsAs (levels_read (scripted_of input)) e → IsErrAnd result (λ given. given ≡ e)
+    → Answers (levels_trace_or want words (scripted_of input)) result s s
+unread want words input result e s fails given =
+    let read = levels_read (scripted_of input) in
+    answers_fails result (levels_trace_or want words (scripted_of input)) e s
+    (fails_then (levels_trace_or want words (scripted_of input)) read (levels_trace want words) e
+    refl fails) given
 
 -- ---- what is answered to a plan and a script
 
@@ -60,22 +42,22 @@ module _ (want : Want) (words : List (List ℕ)) (input : List ℕ) (plan : Plan
     (r : Running NoOverlay) (is : IsScriptedRun input (plan, r)) where
   by_tests : (late all : Bool) → nat_lt r.script.rounds want.last ≡ late
       → are_nodes words (plan_nodes plan) ≡ all
-      → levels_trace_or want words (scripted_of input) ≡ (if late then Err error.NotPlayed
-      else if not all then Err error.NoNode
+      → levels_trace_or want words (scripted_of input) ≡ (if late then Err reason.NotPlayed
+      else if not all then Err reason.NoNode
       else Ok (trace_text plan r.script (named_nodes words (plan_nodes plan)) want.first want.last))
   by_tests late all e e' =
       ap (levels_trace_or want words) is.read
-      ∙ ap₂ (λ (late all : Bool). if late then Err error.NotPlayed
-      else if not all then Err error.NoNode
+      ∙ ap₂ (λ (late all : Bool). if late then Err reason.NotPlayed
+      else if not all then Err reason.NoNode
       else Ok (trace_text plan r.script (named_nodes words (plan_nodes plan)) want.first want.last))
       e e'
 
   pub not_played : r.script.rounds < want.last
-      → levels_trace_or want words (scripted_of input) ≡ Err error.NotPlayed
+      → levels_trace_or want words (scripted_of input) ≡ Err reason.NotPlayed
   not_played lt = by_tests true (are_nodes words (plan_nodes plan)) (lt-ltb _ _ lt) refl
 
   pub no_node : want.last ≤ r.script.rounds → are_nodes words (plan_nodes plan) ≡ false
-      → levels_trace_or want words (scripted_of input) ≡ Err error.NoNode
+      → levels_trace_or want words (scripted_of input) ≡ Err reason.NoNode
   no_node le none = by_tests false false (le-ltb _ _ le) none
 
   pub traced : want.last ≤ r.script.rounds → (ids : List ℕ)
@@ -96,7 +78,7 @@ module _ (want : Want) (words : List (List ℕ)) (input : List ℕ) (plan : Plan
   deep = ap (λ (s : Shape). s.depth) is.records.shape
       ∙ (depth_of_shape r.plan ∙ ap plan_depth is.plan_is)
 
-  pub fits : (depth : ℕ) (desk : Desk) → depth ≡ r.script.shape.depth
+  pub fits : (depth : ℕ) (desk : TraceBuffers) → depth ≡ r.script.shape.depth
       → IsMade plan depth desk → IsFitFor r desk
   fits depth desk e made =
       subst (λ (p : Plan). IsMade p r.script.shape.depth desk) (sym is.plan_is)

@@ -6,15 +6,16 @@ use Rattle.construction.specs.Plans.{plan_nodes}
 use Rattle.plan_reader.specs.Skipped.{first_unskipped}
 use Rattle.outcomes.specs.declared.refusals.Refusal.{Refusal}
 use Rattle.outcomes.specs.Inputs.{Scripted, scripted_of}
+use Rattle.program_words.specs.Conduct.{and_then}
 use Rattle.pulse_runs.specs.declared.errors.RunRefusal.{RunRefusal}
 use Rattle.pulse_runs.specs.declared.errors.RunRefusal.TheVariants as refusal
 use Rattle.pulse_runs.specs.RunInputs as pulses
-use Rattle.pulse_traces.specs.TraceTexts as pulse_texts
-use Rattle.trace_words.specs.declared.wants.Want.{Want}
+use Rattle.traces.specs.PulseTraceTexts as pulse_texts
+use Rattle.traces.specs.declared.wants.Want.{Want}
 use Rattle.traces.specs.TraceTexts.{trace_text}
 use Rattle.trace.specs.Names.{are_nodes, named_nodes}
-use Rattle.trace.specs.declared.errors.TraceError.{TraceError}
-use Rattle.trace.specs.declared.errors.TraceError.TheVariants as error
+use Rattle.trace.specs.declared.reasons.TraceReason.{TraceReason}
+use Rattle.trace.specs.declared.reasons.TraceReason.TheVariants as reason
 
 -- the line is the first one that counts, or no line does
 abbrev pub is_first : Option ℕ → (line : ℕ) → Bool
@@ -26,36 +27,40 @@ abbrev pub fails_at_first : Option ℕ → RunRefusal → Bool
 fails_at_first first (refusal.Plan line premise) = is_first first line
 fails_at_first first (refusal.Part part line rule) = false
 
+-- a plan and a script, or the refusal of one of their lines
+abbrev pub levels_read : Result Scripted Refusal → Result Scripted TraceReason
+levels_read (Ok scripted) = Ok scripted
+levels_read (Err refusal) = Err (reason.Levels refusal)
+
 module _ (want : Want) (words : List (List ℕ)) where
-  -- of a plan of levels over blocks and a script: the words are refused where the last wanted
+  -- of a plan of levels over blocks and a script: the words are refused if the last wanted
   -- configuration is not played, or a word names no node
-  abbrev pub levels_trace : Scripted → Result (List ℕ) TraceError
+  abbrev pub levels_trace : Scripted → Result (List ℕ) TraceReason
   levels_trace s =
-      if nat_lt s.script.rounds want.last then Err error.NotPlayed
-      else if not (are_nodes words (plan_nodes s.plan)) then Err error.NoNode
+      if nat_lt s.script.rounds want.last then Err reason.NotPlayed
+      else if not (are_nodes words (plan_nodes s.plan)) then Err reason.NoNode
       else Ok (trace_text s.plan s.script (named_nodes words (plan_nodes s.plan)) want.first
       want.last)
 
-  abbrev pub levels_trace_or : Result Scripted Refusal → Result (List ℕ) TraceError
-  levels_trace_or (Err refusal) = Err (error.Refused refusal)
-  levels_trace_or (Ok s) = levels_trace s
+  abbrev pub levels_trace_or : Result Scripted Refusal → Result (List ℕ) TraceReason
+  levels_trace_or read = and_then (levels_read read) levels_trace
 
   -- and of a pulse plan and a script
-  abbrev pub pulses_trace : pulses.Scripted → Result (List ℕ) TraceError
+  abbrev pub pulses_trace : pulses.Scripted → Result (List ℕ) TraceReason
   pulses_trace s =
-      if nat_lt s.script.rounds want.last then Err error.NotPlayed
-      else if not (are_nodes words s.plan.nodes) then Err error.NoNode
+      if nat_lt s.script.rounds want.last then Err reason.NotPlayed
+      else if not (are_nodes words s.plan.nodes) then Err reason.NoNode
       else Ok (pulse_texts.trace_text s.plan s.script (named_nodes words s.plan.nodes) want.first
       want.last)
 
-  -- By what an input is as a pulse plan and a script: where its first line that counts is not that
-  -- of a pulse plan, the input is read as a plan of levels over blocks and a script.
+  -- By what an input is as a pulse plan and a script: if its first line that counts is not that of
+  -- a pulse plan, the input is read as a plan of levels over blocks and a script.
   abbrev pub trace_by : (first : Option ℕ) → (input : List ℕ)
-      → Result pulses.Scripted RunRefusal → Result (List ℕ) TraceError
+      → Result pulses.Scripted RunRefusal → Result (List ℕ) TraceReason
   trace_by first input (Ok s) = pulses_trace s
   trace_by first input (Err refused) =
       if fails_at_first first refused then levels_trace_or (scripted_of input)
-      else Err (error.PulsesRefused refused)
+      else Err (reason.Pulses refused)
 
-  abbrev pub trace_of : (input : List ℕ) → Result (List ℕ) TraceError
+  abbrev pub trace_of : (input : List ℕ) → Result (List ℕ) TraceReason
   trace_of input = trace_by (first_unskipped 1 (lines_of input)) input (pulses.scripted_of input)

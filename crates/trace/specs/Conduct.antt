@@ -1,53 +1,32 @@
--- What a trace did to its source and its sink.
-use Rattle.std.specs.Prelude.{◌≡◌, ℕ, ◌^◌, ◌<◌, List, length, Option, Result, Ok, Err, IfSome}
-use Rattle.std.specs.Io.KnownBytes.{Consumes, IsAtEnd}
-use Rattle.texts.specs.Causes.{Counted}
-use Rattle.texts.specs.Growth.{Told, Wrote, Cut}
-use Rattle.edge_io.specs.Reading.{LosesWithin, LosesMore}
-use Rattle.trace_words.specs.declared.wants.Want.{Want}
+-- What `trace` did to its source and its sink for what its words ask for.
+use Rattle.std.specs.Prelude.{ℕ, List, Option, Result}
+use Rattle.texts.specs.Growth.{SinkState}
+use Rattle.program_words.specs.Asked.{asked_by}
+use Rattle.program_words.specs.Conduct as program
+use Rattle.program_words.specs.Conduct.{Answers, DoesWhole}
+use Rattle.program_words.specs.declared.asked.Asked.{Asked}
+use Rattle.program_words.specs.declared.errors.ProgramError.{ProgramError}
+use Rattle.traces.specs.declared.wants.Want.{Want}
 use Rattle.trace.specs.Answers.{trace_of}
-use Rattle.trace.specs.declared.errors.TraceError.{TraceError}
-use Rattle.trace.specs.declared.errors.TraceError.TheVariants as error
+use Rattle.trace.specs.HelpText.{help_text, version_text}
+use Rattle.trace.specs.Requests.{node_words, request_of}
+use Rattle.trace.specs.declared.reasons.TraceReason.{TraceReason}
 
--- The input is a plan and a script, the wanted configurations are played and the words name nodes,
--- and the text of the trace has this.
-pub record IsTraced (answer : Result (List ℕ) TraceError) (holds : List ℕ → Type 0) : Type 0 where
-  pub text : List ℕ
-  pub traced : answer ≡ Ok text
-  pub has : holds text
+abbrev pub asked_of : (words : List (List ℕ)) → Asked Want
+asked_of words = asked_by words (request_of words)
 
--- What was written of an answer: its text; or nothing, since it is this error, or memory was
--- refused; or a front of the text.
-abbrev pub Answers : {T : Type 0} → Result T TraceError → (answer : Result (List ℕ) TraceError)
-    → (old new : Told) → Type 0
-Answers (Ok value) answer old new = IsTraced answer (λ text. Wrote text old new)
-Answers (Err error.WriteFault) answer old new = IsTraced answer (λ text. Cut text old new)
-Answers (Err error.NoMemory) answer old new = new ≡ old
-Answers (Err error.Usage) answer old new = ⊥
-Answers (Err error.ReadFault) answer old new = ⊥
-Answers (Err error.TooLong) answer old new = ⊥
-Answers (Err refused) answer old new = (answer ≡ Err refused) × (new ≡ old)
+-- What a trace did that ended so, if these words name the nodes: the bytes that its source has left,
+-- the source's count of faults, and what its sink tells, each before and after.
+abbrev pub TracesInput : {T : Type 0} → Result T (ProgramError TraceReason) → Want
+    → (nodes : List (List ℕ))
+    → (left left' : Option (List ℕ)) (before now : ℕ) (old new : SinkState) → Type 0
+TracesInput result want nodes left left' before now old new =
+    DoesWhole (λ input. Answers (trace_of want nodes input)) result left left' before now old new
 
--- all of the input was read, and this was written of it
-pub record Answered {T : Type 0} (result : Result T TraceError) (want : Want)
-    (words : List (List ℕ)) (left left' : Option (List ℕ)) (before now : ℕ) (old new : Told)
-    : Type 0 where
-  pub input : List ℕ
-  pub read : Consumes left left' input
-  pub end : IsAtEnd left'
-  pub still : now ≡ before
-  pub answered : Answers result (trace_of want words input) old new
-
--- What a trace did that ended so, of which these words name the nodes: the bytes that its source
--- has left, the source's count of faults, and what its sink tells, each before and after.
-abbrev pub Does : {T : Type 0} → Result T TraceError → Want → (words : List (List ℕ))
-    → (left left' : Option (List ℕ)) (before now : ℕ) (old new : Told) → Type 0
-Does (Err error.ReadFault) want words left left' before now old new =
-    LosesWithin (2 ^ 20) left left' × Counted before now × (new ≡ old)
-Does (Err error.TooLong) want words left left' before now old new =
-    IfSome left (λ bytes. 2 ^ 20 < length bytes) × LosesMore (2 ^ 20) left left'
-    × (now ≡ before) × (new ≡ old)
-Does (Err error.NoMemory) want words left left' before now old new =
-    (now ≡ before) × (new ≡ old)
-Does result want words left left' before now old new =
-    Answered result want words left left' before now old new
+-- and what was done for words
+abbrev pub DoesAsked : {T : Type 0} → (words : List (List ℕ)) → Result T (ProgramError TraceReason)
+    → (left left' : Option (List ℕ)) (before now : ℕ) (old new : SinkState) → Type 0
+DoesAsked words result left left' before now old new =
+    program.DoesAsked help_text version_text
+    (λ want. TracesInput result want (node_words words) left left' before now old new)
+    (asked_of words) result old new

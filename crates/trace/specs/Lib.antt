@@ -1,7 +1,6 @@
 pub mod Answers
-pub mod Asked
 pub mod Conduct
-pub mod Errors
 pub mod HelpText
 pub mod Names
+pub mod Reasons
 pub mod Requests

@@ -22,11 +22,11 @@ is_below n (Some id) = nat_lt id n
 abbrev pub are_nodes : List (List ℕ) → (n : ℕ) → Bool
 are_nodes words n = list_all (λ word. is_below n (number_of word)) words
 
--- the nodes that these words name, each once, in rising order; all where there is no word
+-- the nodes that these words name, each once, in rising order; all if there is no word
 abbrev pub named_nodes : List (List ℕ) → (n : ℕ) → List ℕ
 named_nodes words n = filter (is_wanted words) (range_with_len 0 n)
 
--- these, where each word names one of n nodes, and else none
+-- these, if each word names one of n nodes, and else none
 abbrev pub IsNaming : List (List ℕ) → (n : ℕ) → Option (List ℕ) → Type 0
 IsNaming words n None = are_nodes words n ≡ false
 IsNaming words n (Some ids) = (are_nodes words n ≡ true) × (ids ≡ named_nodes words n)

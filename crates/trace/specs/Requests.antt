@@ -1,20 +1,10 @@
--- What the words ask for: `FROM TO [NODE ..]`, `--help` or `--version`.
-use Rattle.std.specs.Prelude.{ℕ, ◌≤◌, List, [], ◌∷◌, nat_lt, Bool, Option, Some, None, codes}
+-- What the words ask for: `FROM TO [NODE ..]`.
+use Rattle.std.specs.Prelude.{ℕ, ◌≤◌, List, [], ◌∷◌, nat_lt, Bool, Option, Some, None}
 use Rattle.std.specs.Prelude.{if◌then◌else◌}
 use Rattle.std.specs.List.{list_all}
-use Rattle.std.specs.Option.{is_some, option_map}
-use Rattle.std.specs.Str.{bytes_eq}
+use Rattle.std.specs.Option.{is_some}
 use Rattle.texts.specs.Numbers.{number_of}
-use Rattle.trace_words.specs.declared.wants.Want.{Want}
-use Rattle.trace.specs.declared.requests.Request.{Request}
-use Rattle.trace.specs.declared.requests.Request.TheVariants as request
-
--- what a single word asks for
-abbrev pub asked_alone : List ℕ → Option Request
-asked_alone word =
-    if bytes_eq word (codes "--help") then Some request.Help
-    else if bytes_eq word (codes "--version") then Some request.Version
-    else None
+use Rattle.traces.specs.declared.wants.Want.{Want}
 
 -- whether each word is a number
 abbrev pub are_numbers : List (List ℕ) → Bool
@@ -26,14 +16,13 @@ want_by (Some first) (Some last) =
     if nat_lt last first then None else Some (record { first = first; last = last })
 want_by first last = None
 
-abbrev pub request_of : List (List ℕ) → Option Request
+abbrev pub request_of : List (List ℕ) → Option Want
 request_of [] = None
-request_of (word ∷ []) = asked_alone word
+request_of (word ∷ []) = None
 request_of (first ∷ last ∷ nodes) =
-    if are_numbers nodes then option_map request.Trace (want_by (number_of first) (number_of last))
-    else None
+    if are_numbers nodes then want_by (number_of first) (number_of last) else None
 
--- the words of the nodes: those behind the two numbers
+-- the words of the nodes: those after the two numbers
 abbrev pub node_words : List (List ℕ) → List (List ℕ)
 node_words [] = []
 node_words (word ∷ []) = []
@@ -42,8 +31,3 @@ node_words (first ∷ last ∷ nodes) = nodes
 -- the configurations are in order
 abbrev pub IsInOrder : Want → Type 0
 IsInOrder want = want.first ≤ want.last
-
-abbrev pub WantsInOrder : Request → Type 0
-WantsInOrder request.Help = Unit {0}
-WantsInOrder request.Version = Unit {0}
-WantsInOrder (request.Trace want) = IsInOrder want

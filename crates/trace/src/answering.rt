@@ -1,18 +1,19 @@
-//! Answers an input: the script behind its plan is played, and its trace is written.
+//! Answers an input: the script after its plan is played, and its trace is written.
 
 ghost use Rattle.std.specs.Prelude.{◌≡◌, ◌≤◌, ◌^◌, length, map, string_bytes};
+ghost use Rattle.program_words.specs.Conduct.{Answers};
 ghost use Rattle.trace.specs.Answers.{is_first, fails_at_first, trace_of};
-ghost use Rattle.trace.specs.Conduct.{Answers};
 
-use crate::errors::TraceError;
 use crate::of_levels::write_levels_trace;
 use crate::of_pulses::write_pulses_trace;
+use crate::reasons::{TraceError, TraceReason};
 use edge_io::Sink;
 use machine_runner::Runner;
 use plan_reader::first_unskipped;
+use program_words::ProgramError;
 use pulse_runs::{PlayError, RunRefusal, read_scripted};
 use std::alloc::Global;
-use trace_words::Want;
+use traces::Want;
 
 /// Whether the line is the first one that counts, or no line does.
 fn is_first(first: Option<u64>, line: u64) -> bool
@@ -39,7 +40,7 @@ fn fails_at_first(first: Option<u64>, refusal: RunRefusal) -> bool
 }
 
 /// Writes the trace of an input of at most 2^20 bytes, a plan of either construction and a script:
-/// that of the wanted configurations and of the nodes that the words name, or of all where there is
+/// that of the wanted configurations and of the nodes that the words name, or of all if there is
 /// no word.
 pub fn write_trace<K: Sink>(
     alloc: Global,
@@ -50,7 +51,7 @@ pub fn write_trace<K: Sink>(
 ) -> Result<(), TraceError>
     requires order { want.first ≤ want.last }
     requires short { length input.now ≤ 2 ^ 20 }
-    ensures { Answers result (trace_of want (map string_bytes words.now) input.now)
+    ensures { Answers (trace_of want (map string_bytes words.now) input.now) result
         (K.told sink.old) (K.told sink.new) }
 {
     match read_scripted(alloc, input) {
@@ -62,10 +63,10 @@ pub fn write_trace<K: Sink>(
             if fails_at_first(first_unskipped(input, 1), refusal) {
                 write_levels_trace(alloc, want, words, input, sink)
             } else {
-                Err(TraceError::PulsesRefused(refusal))
+                Err(ProgramError::Refused(TraceReason::Pulses(refusal)))
             }
         }
-        Err(PlayError::NoMemory) => Err(TraceError::NoMemory),
-        Err(PlayError::WriteFault) => Err(TraceError::WriteFault),
+        Err(PlayError::NoMemory) => Err(ProgramError::NoMemory),
+        Err(PlayError::WriteFault) => Err(ProgramError::WriteFault),
     }
 }

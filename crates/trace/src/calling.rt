@@ -1,29 +1,27 @@
 //! Reads an input, and writes its trace.
 
 ghost use Rattle.std.specs.Prelude.{◌≡◌, ◌≤◌, map, string_bytes, IsErrOf};
-ghost use Rattle.trace.specs.Conduct.{Does};
+ghost use Rattle.trace.specs.Conduct.{TracesInput};
 
 use crate::answering::write_trace;
-use crate::errors::TraceError;
+use crate::reasons::TraceError;
 use edge_io::{Sink, Source, read_all};
+use program_words::{LONGEST_INPUT, ProgramError};
 use std::alloc::Global;
-use trace_words::Want;
-
-/// How many bytes an input may have.
-const LONGEST_INPUT: usize = 1 << 20;
+use traces::Want;
 
 /// Reads a plan and a script, plays the script, and writes of each wanted configuration what the
 /// nodes hold that the words name, or all where there is no word, and what they make of what they
-/// hear. The plan is a pulse plan where the first line that counts is that of one, and else a plan
+/// hear. The plan is a pulse plan if the first line that counts is that of one, and else a plan
 /// of levels over blocks.
 ///
-/// The whole source is read first, at most 2^20 bytes. `Refused` and `PulsesRefused` come exactly
-/// where `run` of `counterlab`, or of `pulselab`, refuses the input; `NotPlayed` where it is a plan
-/// and a script of fewer rounds than the last wanted configuration; `NoNode` where that one is
-/// played, and a word names no node of the plan. `TooLong` comes only where the byte behind the
-/// limit was there, `ReadFault` and `WriteFault` only where the source, before its end, or the sink
-/// counted a fault, and `NoMemory` where memory was refused. Nothing was written then, but at
-/// `WriteFault` a front of the text. `Usage` never comes.
+/// The whole source is read first, at most 2^20 bytes. `Levels` and `Pulses` come exactly if `run`
+/// of `counterlab`, or of `pulselab`, refuses the input; `NotPlayed` if it is a plan and a script of
+/// fewer rounds than the last wanted configuration; `NoNode` if that one is played, and a word names
+/// no node of the plan. `TooLong` comes only if the byte after the limit was there, `ReadFault` and
+/// `WriteFault` only if the source, before its end, or the sink counted a fault, and `NoMemory` if
+/// memory was refused. Nothing was written then, but at `WriteFault` a prefix of the text. `Usage`
+/// never comes.
 pub fn trace_input<S: Source, K: Sink>(
     alloc: Global,
     want: Want,
@@ -32,11 +30,11 @@ pub fn trace_input<S: Source, K: Sink>(
     sink: &mut K,
 ) -> Result<(), TraceError>
     requires { want.first ≤ want.last }
-    ensures does { Does result want (map string_bytes words.now)
+    ensures traces { TracesInput result want (map string_bytes words.now)
         (S.left source.old) (S.left source.new) (S.faults source.old) (S.faults source.new)
         (K.told sink.old) (K.told sink.new) }
     // At `ReadFault` the end of the source was not met.
-    ensures unmet { IsErrOf result TraceError.ReadFault → S.met source.new ≡ S.met source.old }
+    ensures unmet { IsErrOf result ProgramError.ReadFault → S.met source.new ≡ S.met source.old }
 {
     let input = read_all(alloc, source, LONGEST_INPUT)?;
     write_trace(alloc, want, words, &input, sink)

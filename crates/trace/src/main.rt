@@ -8,48 +8,36 @@
 //! standard error, and what is refused by one line there. The exit codes are those of `counterlab`
 //! and `pulselab`.
 //!
-//! All that is proved, of [`asking::answer`] and [`errors::put_error`]; that the line goes to
+//! All that is proved, of [`asking::answer`] and [`program_words::end`]; that the line goes to
 //! standard error is not.
 #![tactic(auto)]
 
 mod answering;
 mod asking;
 mod calling;
-mod errors;
 mod naming;
 mod of_levels;
 mod of_pulses;
+mod reasons;
 mod requests;
 #[cfg(test)]
 mod tests;
 
 use crate::asking::answer;
-use crate::errors::{TraceError, put_error};
+use crate::reasons::TraceError;
 use edge_io::{StdSink, StdSource};
-use program_words::{arguments, words};
+use program_words::{arguments, end, words};
 use std::io;
 use std::process::ExitCode;
 
 /// Does what the words ask for.
 fn run(rt: &HostRuntime) -> Result<(), TraceError> {
-    let arguments = match arguments(rt) {
-        Ok(arguments) => arguments,
-        Err(_) => return Err(TraceError::NoMemory),
-    };
+    let arguments = arguments(rt)?;
     let mut source = StdSource::new(rt.stdin());
     let mut sink = StdSink::new(io::writer(rt));
     answer(rt.alloc(), words(&arguments), &mut source, &mut sink)
 }
 
 fn main(rt: HostRuntime) -> ExitCode {
-    match run(&rt) {
-        Ok(()) => ExitCode::SUCCESS,
-        Err(error) => {
-            let stderr = rt.stderr();
-            let mut sink = StdSink::new(io::writer(&stderr));
-            // Where standard error is closed, the code alone says it.
-            let _ = put_error(&mut sink, error);
-            error.exit_code()
-        }
-    }
+    end(&rt, run(&rt))
 }

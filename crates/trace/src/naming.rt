@@ -40,8 +40,8 @@ fn are_nodes(words: &[String], nodes: u32) -> bool
     true
 }
 
-/// The nodes that these words name, in rising order, and all where there is no word; None where a
-/// word names no node.
+/// The nodes that these words name, in rising order, and all if there is no word; None if a word
+/// names no node.
 pub fn named_nodes(
     alloc: Global,
     words: &[String],

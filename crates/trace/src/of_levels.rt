@@ -1,20 +1,40 @@
 //! The trace of a plan of levels over blocks, and a script.
 
-ghost use Rattle.std.specs.Prelude.{◌≤◌, ◌^◌, length, map, string_bytes};
+ghost use Rattle.std.specs.Prelude.{◌≤◌, ◌^◌, length, map, string_bytes, IfErr, IfOk};
+ghost use Rattle.answers.specs.ScriptedRuns.{IsScriptedRun};
 ghost use Rattle.outcomes.specs.Inputs.{scripted_of};
-ghost use Rattle.trace.specs.Answers.{levels_trace_or};
-ghost use Rattle.trace.specs.Conduct.{Answers};
+ghost use Rattle.program_words.specs.Conduct.{Answers, FailsAs};
+ghost use Rattle.trace.specs.Answers.{levels_read, levels_trace_or};
 
-use crate::errors::TraceError;
 use crate::naming::named_nodes;
-use answers::read_scripted;
+use crate::reasons::{TraceError, TraceReason};
+use answers::{Unanswered, read_scripted};
+use counter_core::NoOverlay;
 use edge_io::Sink;
+use plan_numbers::Plan;
+use program_words::ProgramError;
+use round_runner::Runner;
 use std::alloc::Global;
-use trace_words::Want;
-use traces::{Desk, put_trace};
+use traces::{TraceBuffers, Want, put_trace};
+
+/// The plan of an input, and the runner of its script on it.
+fn read_levels(alloc: Global, input: &[u8]) -> Result<(Plan, Runner<NoOverlay>), TraceError>
+    requires { length input.now ≤ 2 ^ 20 }
+    ensures read { IfOk result (IsScriptedRun input.now) }
+    ensures fails { IfErr result (FailsAs (levels_read (scripted_of input.now))) }
+{
+    match read_scripted(alloc, input) {
+        Ok(read) => Ok(read),
+        Err(Unanswered::Refused(refusal)) => {
+            Err(ProgramError::Refused(TraceReason::Levels(refusal)))
+        }
+        Err(Unanswered::NoMemory) => Err(ProgramError::NoMemory),
+        Err(Unanswered::WriteFault) => Err(ProgramError::WriteFault),
+    }
+}
 
 /// Writes the trace of an input that is read as such a plan and a script: that of the wanted
-/// configurations and of the nodes that the words name, or of all where there is no word.
+/// configurations and of the nodes that the words name, or of all if there is no word.
 pub fn write_levels_trace<K: Sink>(
     alloc: Global,
     want: Want,
@@ -24,19 +44,19 @@ pub fn write_levels_trace<K: Sink>(
 ) -> Result<(), TraceError>
     requires order { want.first ≤ want.last }
     requires short { length input.now ≤ 2 ^ 20 }
-    ensures { Answers result
-        (levels_trace_or want (map string_bytes words.now) (scripted_of input.now))
+    ensures { Answers
+        (levels_trace_or want (map string_bytes words.now) (scripted_of input.now)) result
         (K.told sink.old) (K.told sink.new) }
 {
-    let (plan, mut runner) = read_scripted(alloc, input)?;
+    let (plan, mut runner) = read_levels(alloc, input)?;
     if want.last > runner.script().rounds() {
-        return Err(TraceError::NotPlayed);
+        return Err(ProgramError::Refused(TraceReason::NotPlayed));
     }
     let Some(nodes) = named_nodes(alloc, words, plan.nodes())? else {
-        return Err(TraceError::NoNode);
+        return Err(ProgramError::Refused(TraceReason::NoNode));
     };
     let depth = runner.shape().depth();
-    let mut desk = Desk::new(alloc, &plan, depth)?;
+    let mut desk = TraceBuffers::new(alloc, &plan, depth)?;
     put_trace(sink, &mut runner, want, &nodes, &mut desk)?;
     Ok(())
 }

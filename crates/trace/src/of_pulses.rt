@@ -1,20 +1,20 @@
 //! The trace of a script that a runner plays on a pulse plan.
 
 ghost use Rattle.std.specs.Prelude.{◌≡◌, ◌≤◌, map, string_bytes};
+ghost use Rattle.program_words.specs.Conduct.{Answers};
 ghost use Rattle.trace.specs.Answers.{pulses_trace};
-ghost use Rattle.trace.specs.Conduct.{Answers};
 
-use crate::errors::TraceError;
 use crate::naming::named_nodes;
+use crate::reasons::{TraceError, TraceReason};
 use edge_io::Sink;
 use machine_runner::Runner;
-use pulse_machine::PulseMachine;
-use pulse_traces::{Desk, put_trace};
+use program_words::ProgramError;
+use pulse_plan::PulseMachine;
 use std::alloc::Global;
-use trace_words::Want;
+use traces::{PulseBuffers, Want, put_pulse_trace};
 
 /// Writes the trace of the wanted configurations and of the nodes that the words name, or of all
-/// where there is no word. The runner is at configuration 0.
+/// if there is no word. The runner is at configuration 0.
 pub fn write_pulses_trace<K: Sink>(
     alloc: Global,
     want: Want,
@@ -24,17 +24,17 @@ pub fn write_pulses_trace<K: Sink>(
 ) -> Result<(), TraceError>
     requires order { want.first ≤ want.last }
     requires start { runner.old.at ≡ 0 }
-    ensures { Answers result (pulses_trace want (map string_bytes words.now)
-        (record { plan = runner.old.machine; script = runner.old.script }))
+    ensures { Answers (pulses_trace want (map string_bytes words.now)
+        (record { plan = runner.old.machine; script = runner.old.script })) result
         (K.told sink.old) (K.told sink.new) }
 {
     if want.last > runner.script().rounds() {
-        return Err(TraceError::NotPlayed);
+        return Err(ProgramError::Refused(TraceReason::NotPlayed));
     }
     let Some(nodes) = named_nodes(alloc, words, runner.machine().plan().nodes())? else {
-        return Err(TraceError::NoNode);
+        return Err(ProgramError::Refused(TraceReason::NoNode));
     };
-    let mut desk = Desk::new(alloc, runner)?;
-    put_trace(sink, runner, want, &nodes, &mut desk)?;
+    let mut desk = PulseBuffers::new(alloc, runner)?;
+    put_pulse_trace(sink, runner, want, &nodes, &mut desk)?;
     Ok(())
 }

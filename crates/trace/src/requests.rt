@@ -1,36 +1,10 @@
 //! What the words ask for.
 
 ghost use Rattle.std.specs.Prelude.{◌≡◌, map, string_bytes, IfSome};
-ghost use Rattle.trace.specs.Requests.{are_numbers, asked_alone, node_words, request_of, want_by};
-ghost use Rattle.trace.specs.Requests.{IsInOrder, WantsInOrder};
+ghost use Rattle.trace.specs.Requests.{are_numbers, node_words, request_of, want_by, IsInOrder};
 
 use edge_io::number;
-use trace_words::Want;
-
-/// What is asked for.
-#[derive(Clone, Copy, Debug, PartialEq, Eq)]
-pub enum Request {
-    /// How the program is used.
-    Help,
-    /// Its name and version.
-    Version,
-    /// A trace of these configurations.
-    Trace(Want),
-}
-
-/// What a single word asks for.
-fn asked_alone(word: &str) -> Option<Request>
-    ensures value { result ≡ asked_alone word.now }
-    ensures order { IfSome result WantsInOrder }
-{
-    if word == "--help" {
-        Some(Request::Help)
-    } else if word == "--version" {
-        Some(Request::Version)
-    } else {
-        None
-    }
-}
+use traces::Want;
 
 /// Whether each word is a number.
 fn are_numbers(words: &[String]) -> bool
@@ -44,7 +18,7 @@ fn are_numbers(words: &[String]) -> bool
     true
 }
 
-/// The configurations from the one number to the other, where each is one and they are in order.
+/// The configurations from the one number to the other, if each is one and they are in order.
 fn want_by(first: Option<u64>, last: Option<u64>) -> Option<Want>
     ensures value { result ≡ want_by first last }
     ensures order { IfSome result IsInOrder }
@@ -61,26 +35,24 @@ fn want_by(first: Option<u64>, last: Option<u64>) -> Option<Want>
     }
 }
 
-/// What these words ask for: None exactly where they ask for nothing. Behind the numbers of the
+/// What these words ask for: None exactly if they ask for no trace. After the numbers of the
 /// configurations stand those of nodes, which only the plan can say to be some.
-pub fn request_of(words: &[String]) -> Option<Request>
+pub fn request_of(words: &[String]) -> Option<Want>
     ensures value { result ≡ request_of (map string_bytes words.now) }
-    ensures order { IfSome result WantsInOrder }
+    ensures order { IfSome result IsInOrder }
 {
     match words {
-        [word] => asked_alone(word.as_str()),
         [first, last, nodes @ ..] => {
             if !are_numbers(nodes) {
                 return None;
             }
-            let want = want_by(number(first.as_bytes()), number(last.as_bytes()))?;
-            Some(Request::Trace(want))
+            want_by(number(first.as_bytes()), number(last.as_bytes()))
         }
         _ => None,
     }
 }
 
-/// The words behind those of the configurations.
+/// The words after those of the configurations.
 pub fn node_words(words: &[String]) -> &[String]
     ensures { map string_bytes result.now ≡ node_words (map string_bytes words.now) }
 {

@@ -1,6 +1,6 @@
 use crate::asking::answer;
-use crate::errors::put_error;
 use edge_io::{MemSink, MemSource};
+use program_words::put_error;
 use std::alloc::Global;
 use std::test::Fail;
 
@@ -9,7 +9,7 @@ struct Row {
     words: &'static [&'static str],
     input: &'static [u8],
     code: u8,
-    /// What is written, and behind it the line of an error.
+    /// What is written, and after it the line of an error.
     text: &'static [u8],
 }
 
@@ -69,7 +69,7 @@ fn is_answered(alloc: Global, row: &Row) -> Result<bool, Fail> {
     let mut code = 0;
     if let Err(error) = answer(alloc, &words, &mut source, &mut sink) {
         code = error.code();
-        if put_error(&mut sink, error).is_err() {
+        if put_error(&mut sink, &error).is_err() {
             return Ok(false);
         }
     }

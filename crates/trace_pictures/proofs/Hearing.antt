@@ -4,7 +4,7 @@ use Rattle.std.proofs.Common.{List, Option, refl, sym, ap, subst, ◌∙◌, ari
 use Rattle.std.proofs.lemmas.Bool.{cases_lt, ne_eqb}
 use Rattle.std.proofs.lemmas.List.{get_or_default, drop_more}
 use Rattle.trace_pictures.specs.declared.traces.Note.{Note}
-use Rattle.trace_pictures.specs.declared.traces.Reign.{Reign}
+use Rattle.trace_pictures.specs.declared.traces.KingPhase.{KingPhase}
 use Rattle.trace_pictures.specs.TraceSaid.{ColumnsRise, IsBefore, IsHeardByAll, KnowsValue, hears}
 use Rattle.trace_pictures.specs.TraceSaid.{is_lost_before, is_other, top_value, value_before}
 
@@ -72,14 +72,14 @@ module _ (notes : List Note) (k : ℕ) (lt : k < length notes) (note : Note)
         (omega (arith, most_more i d (omega (arith, order, within)), same_column d))
   ]
 
--- ---- turns
+-- ---- phases
 
--- in another column nothing is heard of a turn
-pub deaf : (reign : Reign) (note : Note) → (note.column ≡ reign.column → ⊥)
+-- in another column nothing is heard of a phase
+pub deaf : (reign : KingPhase) (note : Note) → (note.column ≡ reign.column → ⊥)
     → is_other (hears reign note) ≡ false
 deaf reign note apart = rw (ne_eqb note.column reign.column apart) refl
 
--- where one line before a place stands before a column, all lines before the place do
+-- if one line before a place stands before a column, all lines before the place do
 pub starts_before : (notes : List Note) (from column : ℕ) (d : Note) → ColumnsRise notes
     → from - 1 < length notes → (get_or notes (from - 1) d).column < column
     → IsBefore column from notes
@@ -93,7 +93,7 @@ starts_before notes from column d rise inside before k e within less =
       rise k (from - 1) e (omega (arith, less)) inside,
     )
 
-module _ (reign : Reign) (notes : List Note) (rise : ColumnsRise notes) where
+module _ (reign : KingPhase) (notes : List Note) (rise : ColumnsRise notes) where
   -- lines from a place on stand in later columns
   pub heard_so_far : (k : ℕ) (note : Note) → k < length notes → note ≡ get_or notes k note
       → reign.column < note.column
@@ -109,7 +109,7 @@ module _ (reign : Reign) (notes : List Note) (rise : ColumnsRise notes) where
         (λ same. omega (arith, rise k j d later within, here, late, same))
   ]
 
-  -- one line more, on which no other turn is heard
+  -- one line more, on which no other phase is heard
   pub heard_more : (k : ℕ) (note : Note) → k < length notes → note ≡ get_or notes k note
       → is_other (hears reign note) ≡ false
       → ((j : ℕ) (d : Note) → j < length notes → j < k

@@ -13,9 +13,9 @@ use Rattle.trace_pictures.specs.declared.traces.Register.{Register}
 use Rattle.trace_pictures.specs.declared.traces.Seen.{Seen}
 use Rattle.trace_pictures.specs.declared.traces.Seen.TheVariants.{Shows, Holds}
 use Rattle.trace_pictures.specs.declared.traces.Note.{Note}
-use Rattle.trace_pictures.specs.declared.traces.Reign.{Reign}
+use Rattle.trace_pictures.specs.declared.traces.KingPhase.{KingPhase}
 use Rattle.trace_pictures.specs.declared.traces.Title.{Title}
-use Rattle.picture_parts.specs.declared.frames.Spot.{Spot}
+use Rattle.picture_parts.specs.declared.frames.CellPosition.{CellPosition}
 use Rattle.picture_parts.specs.Frames.{band_top, configuration, left, middle, spot_top, width}
 use Rattle.picture_parts.specs.Squares.{column_head, cross, hover_front, node_label, number_text}
 use Rattle.picture_parts.specs.Squares.{rectangle_front, shown_at}
@@ -23,28 +23,28 @@ use Rattle.trace_pictures.specs.Traces.{held_word, number_or_none, turn_word}
 
 -- ---- registers
 
--- the ground of a register: grey where it has no value
+-- the ground of a register: grey if it has no value
 abbrev pub ground : Option ℕ → Held → List ℕ
 ground None held = codes "whitesmoke'/>\n"
 ground (Some value) Unmarked = codes "#fde9b0'/>\n"
 ground (Some value) Marked = codes "#b5d3f2'/>\n"
 ground (Some value) Locked = codes "#a6dba0'/>\n"
 
--- what is told of a register where the pointer rests on it
+-- what is said of a register when the pointer rests on it
 abbrev pub level_told : (level : ℕ) → List ℕ
 level_told level = concat (codes ", level " ∷ decimal level ∷ codes ": " ∷ [])
 
 abbrev pub held_told : Held → List ℕ
 held_told held = held_word held ++ codes "</title>\n"
 
-abbrev pub register_hover : Spot → (node : ℕ) → Register → List ℕ
+abbrev pub register_hover : CellPosition → (node : ℕ) → Register → List ℕ
 register_hover spot node register =
     hover_front spot node
     ++ (level_told register.level
     ++ (number_or_none register.value ++ held_told register.held))
 
 -- what lies on it: nothing, dots, or a frame
-abbrev pub cover : Spot → Held → List ℕ
+abbrev pub cover : CellPosition → Held → List ℕ
 cover spot Unmarked = []
 cover spot Marked = concat (
     codes "<path d='M" ∷ decimal (left spot)
@@ -60,36 +60,36 @@ cover spot Locked = concat (
     ∷ codes "z' fill='none' stroke='darkgreen' stroke-width='2'/>\n" ∷ [])
 
 -- the value, or a cross, in the middle
-abbrev pub value_text : Spot → Option ℕ → List ℕ
+abbrev pub value_text : CellPosition → Option ℕ → List ℕ
 value_text spot (Some value) = number_text (middle spot) (spot_top spot + 13) value
 value_text spot None = cross spot
 
 -- a register within its group
-abbrev pub register_in : Spot → Register → List ℕ
+abbrev pub register_in : CellPosition → Register → List ℕ
 register_in spot register =
     rectangle_front spot
     ++ (ground register.value register.held
     ++ (cover spot register.held ++ value_text spot register.value))
 
-abbrev pub register_at : Spot → (node : ℕ) → Register → List ℕ
+abbrev pub register_at : CellPosition → (node : ℕ) → Register → List ℕ
 register_at spot node register =
     register_hover spot node register ++ (register_in spot register ++ codes "</g>\n")
 
 -- ---- lines of a trace
 
--- what is drawn of an output: that of a faulty node counts for nothing, and where a node has no
--- value it shows none
+-- what is drawn of an output: that of a faulty node counts for nothing, and if a node has no value
+-- it shows none
 abbrev pub face_in : (faulty lost : Bool) → ℕ → Face
 face_in true lost output = face.Faulty
 face_in false true output = face.Nothing
 face_in false false output = face.Value output
 
 -- a faulty node is hatched, whatever it holds
-abbrev pub held_cell : Spot → (node : ℕ) (faulty : Bool) → Register → List ℕ
+abbrev pub held_cell : CellPosition → (node : ℕ) (faulty : Bool) → Register → List ℕ
 held_cell spot node true register = shown_at spot node face.Faulty false
 held_cell spot node false register = register_at spot node register
 
-abbrev pub seen_cell : Spot → Note → Seen → List ℕ
+abbrev pub seen_cell : CellPosition → Note → Seen → List ℕ
 seen_cell spot note (Shows shown) =
     shown_at spot note.node (face_in note.is_faulty note.is_lost shown.output) note.is_hit
 seen_cell spot note (Holds register) = held_cell spot note.node note.is_faulty register
@@ -98,7 +98,7 @@ abbrev pub note_head : Frame → Note → List ℕ
 note_head frame note = if note.is_first then column_head frame note.column else []
 
 -- where a line is drawn
-abbrev pub note_spot : Frame → Note → Spot
+abbrev pub note_spot : Frame → Note → CellPosition
 note_spot frame note = record {
   frame = frame;
   column = note.column;
@@ -106,28 +106,28 @@ note_spot frame note = record {
 }
 
 -- a line in its spot
-abbrev pub note_at : Spot → Note → List ℕ
+abbrev pub note_at : CellPosition → Note → List ℕ
 note_at spot note =
     note_head spot.frame note ++ (node_label spot note.node ++ seen_cell spot note note.seen)
 
 abbrev pub note_picture : Frame → Note → List ℕ
 note_picture frame note = note_at (note_spot frame note) note
 
--- ---- the kings' turns
+-- ---- the kings' phases
 
--- how far a turn has come, as a part of its cell: one third, two thirds, all
+-- how far a phase has come, as a part of its cell: one third, two thirds, all
 abbrev pub share : (width : ℕ) → Turn → ℕ
 share width Keep = width / 3
 share width Mark = width * 2 / 3
 share width King = width
 
--- a frame, broken where not all hear it
+-- a frame, broken if not all hear it
 abbrev pub edge : Bool → List ℕ
 edge true = codes "z' fill='none' stroke='black'/>\n"
 edge false = codes "z' fill='none' stroke='black' stroke-dasharray='2'/>\n"
 
 -- a part of a cell in gold, and a frame about the cell
-abbrev pub gold_part : Spot → (part : ℕ) (edge : List ℕ) → List ℕ
+abbrev pub gold_part : CellPosition → (part : ℕ) (edge : List ℕ) → List ℕ
 gold_part spot part edge = concat (
     codes "<path d='M" ∷ decimal (left spot)
     ∷ codes " " ∷ decimal (spot_top spot)
@@ -139,12 +139,12 @@ gold_part spot part edge = concat (
     ∷ codes "v14H" ∷ decimal (left spot)
     ∷ edge ∷ [])
 
--- the turn: its front in gold, and a frame
-abbrev pub reign_box : Spot → Reign → List ℕ
+-- the phase: its share in gold, and a frame
+abbrev pub reign_box : CellPosition → KingPhase → List ℕ
 reign_box spot reign = gold_part spot (share (width spot) reign.turn) (edge reign.is_common)
 
--- what is told of a turn where the pointer rests on it
-abbrev pub reign_hover : Spot → Reign → List ℕ
+-- what is said of a phase when the pointer rests on it
+abbrev pub reign_hover : CellPosition → KingPhase → List ℕ
 reign_hover spot reign = concat (
     codes "<g><title>configuration " ∷ decimal (configuration spot)
     ∷ codes ", level " ∷ decimal reign.level
@@ -152,26 +152,26 @@ reign_hover spot reign = concat (
     ∷ codes "</title>\n" ∷ [])
 
 -- the king, and the end of a group
-abbrev pub king_text : Spot → (king : ℕ) → List ℕ
+abbrev pub king_text : CellPosition → (king : ℕ) → List ℕ
 king_text spot king = concat (
     codes "<text x='" ∷ decimal (middle spot)
     ∷ codes "' y='" ∷ decimal (spot_top spot + 11)
     ∷ codes "'>" ∷ decimal king
     ∷ codes "</text></g>\n" ∷ [])
 
-abbrev pub reign_at : Spot → Reign → List ℕ
+abbrev pub reign_at : CellPosition → KingPhase → List ℕ
 reign_at spot reign =
     reign_hover spot reign ++ (reign_box spot reign ++ king_text spot reign.king)
 
--- where a turn is drawn
-abbrev pub reign_spot : Frame → Reign → Spot
+-- where a phase is drawn
+abbrev pub reign_spot : Frame → KingPhase → CellPosition
 reign_spot frame reign = record {
   frame = frame;
   column = reign.column;
   top = reign.top;
 }
 
-abbrev pub reign_picture : Frame → Reign → List ℕ
+abbrev pub reign_picture : Frame → KingPhase → List ℕ
 reign_picture frame reign = reign_at (reign_spot frame reign) reign
 
 -- ---- the word before a strip

@@ -1,4 +1,4 @@
--- Where the lines, the kings' turns and the levels of a trace belong.
+-- Where the lines, the kings' phases and the levels of a trace belong.
 use Rattle.std.specs.Prelude.{◌≡◌, ℕ, ◌+◌, ◌-◌, ◌*◌, ◌/◌, ◌%◌, ◌<◌, ◌≤◌, ◌==◌, ◌&&◌, List, [], ◌∷◌}
 use Rattle.std.specs.Prelude.{length, take, Bool, true, false, Option, Some, None, slice_index_or}
 use Rattle.std.specs.Prelude.{All, AllPairs}
@@ -8,7 +8,7 @@ use Rattle.trace_pictures.specs.declared.traces.Heard.{Heard}
 use Rattle.trace_pictures.specs.declared.traces.Seen.{Seen}
 use Rattle.trace_pictures.specs.declared.traces.Seen.TheVariants.{Shows, Holds}
 use Rattle.trace_pictures.specs.declared.traces.Note.{Note}
-use Rattle.trace_pictures.specs.declared.traces.Reign.{Reign}
+use Rattle.trace_pictures.specs.declared.traces.KingPhase.{KingPhase}
 use Rattle.trace_pictures.specs.declared.traces.Title.{Title}
 use Rattle.trace_pictures.specs.declared.traces.Level.{Level}
 use Rattle.trace_pictures.specs.declared.traces.Trace.{Trace}
@@ -43,9 +43,8 @@ abbrev pub IsAtHeight : List Level → (place top : ℕ) → Seen → Type 0
 IsAtHeight levels place top (Shows output) = top ≡ line_top place
 IsAtHeight levels place top (Holds register) = StandsInStrip levels place top register.level
 
--- A line of a node, where so many outputs, `before`, were shown before that of its node: it is on
--- the node whose turn it is, and stands in the column of its configuration, and in the line of its
--- node.
+-- A line of a node, if so many outputs, `before`, were shown before that of its node: it is on the
+-- node that is due, and stands in the column of its configuration, and in the line of its node.
 pub record IsNoteLaid (levels : List Level) (nodes : ℕ) (ids : List ℕ) (before : ℕ) (note : Note)
     : Type 0 where
   pub node : (d : ℕ) → slice_index_or ids (before % nodes) d ≡ note.node
@@ -64,50 +63,50 @@ abbrev pub AreLinesLaid : List Level → (nodes : ℕ) → (ids : List ℕ) → 
 AreLinesLaid levels nodes ids notes =
     (k : ℕ) (d : Note) → k < length notes → IsLaidAt levels nodes ids notes k d
 
--- ---- kings' turns
+-- ---- kings' phases
 
--- the turn that is heard at a level, in the column of its configuration
-pub record IsTurnOf (column level : ℕ) (heard : Heard) (reign : Reign) : Type 0 where
+-- the phase that is heard at a level, in the column of its configuration
+pub record IsTurnOf (column level : ℕ) (heard : Heard) (reign : KingPhase) : Type 0 where
   pub at_column : reign.column ≡ column
   pub at_level : reign.level ≡ level
   pub same_king : reign.king ≡ heard.king
   pub same_turn : reign.turn ≡ heard.turn
 
--- one of the turns is the one that is heard
-pub record HasTurnOf (reigns : List Reign) (column level : ℕ) (heard : Heard) : Type 0 where
+-- one of the phases is the one that is heard
+pub record HasTurnOf (reigns : List KingPhase) (column level : ℕ) (heard : Heard) : Type 0 where
   pub place : ℕ
   pub inside : place < length reigns
-  pub is : (d : Reign) → IsTurnOf column level heard (slice_index_or reigns place d)
+  pub is : (d : KingPhase) → IsTurnOf column level heard (slice_index_or reigns place d)
 
-abbrev pub HasTurnHeard : List Reign → (column level : ℕ) → Option Heard → Type 0
+abbrev pub HasTurnHeard : List KingPhase → (column level : ℕ) → Option Heard → Type 0
 HasTurnHeard reigns column level (Some heard) = HasTurnOf reigns column level heard
 HasTurnHeard reigns column level None = Unit {0}
 
--- where a correct node hears a turn, it is drawn
-abbrev pub HasTurnIf : List Reign → (faulty : Bool) → (column : ℕ) → Seen → Type 0
+-- if a correct node hears a phase, it is drawn
+abbrev pub HasTurnIf : List KingPhase → (faulty : Bool) → (column : ℕ) → Seen → Type 0
 HasTurnIf reigns true column seen = Unit {0}
 HasTurnIf reigns false column (Shows output) = Unit {0}
 HasTurnIf reigns false column (Holds register) =
     HasTurnHeard reigns column register.level register.heard
 
-abbrev pub HasTurn : List Reign → Note → Type 0
+abbrev pub HasTurn : List KingPhase → Note → Type 0
 HasTurn reigns note = HasTurnIf reigns note.is_faulty note.column note.seen
 
--- a turn stands above the cells of its level's strip
-pub record IsTurnLaid (levels : List Level) (reign : Reign) : Type 0 where
+-- a phase stands above the cells of its level's strip
+pub record IsTurnLaid (levels : List Level) (reign : KingPhase) : Type 0 where
   pub strip : Level
   pub is : IsStripOf levels reign.level strip
   pub below : strip.top ≤ reign.top
   pub above : reign.top + 16 ≤ strip.cells
 
--- turns of one level in one column stand one below the other
-abbrev pub AreApart : (turn later : Reign) → Type 0
+-- phases of one level in one column stand one below the other
+abbrev pub AreApart : (turn later : KingPhase) → Type 0
 AreApart turn later =
     turn.column ≡ later.column → turn.level ≡ later.level → turn.top + 16 ≤ later.top
 
 -- ---- levels
 
--- Strips stand one below the other, from one height to another, in each a row of turns and a line
+-- Strips stand one below the other, from one height to another, in each a row of phases and a line
 -- for each node; their levels rise.
 abbrev pub AreStacked : (nodes below from : ℕ) → List Level → (end : ℕ) → Type 0
 AreStacked nodes below from [] end = from ≤ end
@@ -115,7 +114,7 @@ AreStacked nodes below from (strip ∷ strips) end =
     (below < strip.level) × (from ≤ strip.top) × (strip.top + 16 ≤ strip.cells)
     × AreStacked nodes strip.level (strip.cells + 18 * nodes) strips end
 
--- a word before a strip stands beside its turns, at the front of a band
+-- a word before a strip stands beside its phases, at the beginning of a band
 pub record IsTitleLaid (levels : List Level) (title : Title) : Type 0 where
   pub strip : Level
   pub is : IsStripOf levels title.level strip
@@ -125,7 +124,7 @@ pub record IsTitleLaid (levels : List Level) (title : Title) : Type 0 where
 -- ---- all of it
 
 -- Each configuration has a column, and in it each node its lines: its output, and its registers in
--- the strips of their levels. The nodes are the same ones in each, and their ids rise. Each turn
+-- the strips of their levels. The nodes are the same ones in each, and their ids rise. Each phase
 -- that a correct node hears is drawn, and none covers another. Nothing else covers the outputs and
 -- the strips. The lines say what is drawn. There is a configuration, and a node in it.
 pub record IsTraceLaid (trace : Trace) : Type 0 where

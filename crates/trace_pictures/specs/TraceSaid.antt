@@ -1,5 +1,5 @@
 -- What the lines of a trace say of what is drawn of it: which outputs stand for no value, which
--- turns are heard, by all or by some, and what is known of a level.
+-- phases are heard, by all or by some, and what is known of a level.
 use Rattle.std.specs.Prelude.{◌≡◌, ℕ, ◌+◌, ◌<◌, ◌≤◌, ◌==◌, ◌&&◌, not, List, [], ◌∷◌, length, map}
 use Rattle.std.specs.Prelude.{drop, Bool, true, false, Option, Some, None, slice_index_or, All}
 use Rattle.std.specs.Prelude.{if◌then◌else◌}
@@ -10,7 +10,7 @@ use Rattle.trace_pictures.specs.declared.traces.Turn.TheVariants.{Keep, Mark, Ki
 use Rattle.trace_pictures.specs.declared.traces.Seen.{Seen}
 use Rattle.trace_pictures.specs.declared.traces.Seen.TheVariants.{Shows, Holds}
 use Rattle.trace_pictures.specs.declared.traces.Note.{Note}
-use Rattle.trace_pictures.specs.declared.traces.Reign.{Reign}
+use Rattle.trace_pictures.specs.declared.traces.KingPhase.{KingPhase}
 use Rattle.trace_pictures.specs.declared.traces.Level.{Level}
 use Rattle.trace_pictures.specs.declared.traces.Trace.{Trace}
 use Rattle.picture_parts.specs.Moduli.{IsModulusOf}
@@ -25,7 +25,7 @@ output_in (Holds register) = None
 abbrev pub output_said : Note → Option ℕ
 output_said note = output_in note.seen
 
--- a register comes, and behind it these lines
+-- a register comes, and after it these lines
 abbrev pub value_before : Seen → (later : Option (Option ℕ)) → Option (Option ℕ)
 value_before (Shows shown) later = None
 value_before (Holds register) None = Some register.value
@@ -48,7 +48,7 @@ abbrev pub is_lost_before : Seen → (later : Option (Option ℕ)) → Bool
 is_lost_before (Shows shown) later = lacks_value later
 is_lost_before (Holds register) later = false
 
--- an output knows whether the lines behind it say that its node has no value
+-- an output knows whether the lines after it say that its node has no value
 abbrev pub KnowsValue : List Note → (k : ℕ) → Note → Type 0
 KnowsValue notes k note = note.is_lost ≡ is_lost_before note.seen (top_value (drop (k + 1) notes))
 
@@ -56,7 +56,7 @@ abbrev pub KnowValues : List Note → Type 0
 KnowValues notes =
     (k : ℕ) (d : Note) → k < length notes → KnowsValue notes k (slice_index_or notes k d)
 
--- ---- kings' turns
+-- ---- kings' phases
 
 abbrev pub is_same_turn : Turn → Turn → Bool
 is_same_turn Keep Keep = true
@@ -64,20 +64,20 @@ is_same_turn Mark Mark = true
 is_same_turn King King = true
 is_same_turn turn other = false
 
--- whether what is heard is a turn, if anything is
-abbrev pub heard_as : Reign → Option Heard → Option Bool
+-- whether what is heard is this phase, if anything is
+abbrev pub heard_as : KingPhase → Option Heard → Option Bool
 heard_as reign None = None
 heard_as reign (Some heard) =
     Some ((heard.king == reign.king) && is_same_turn heard.turn reign.turn)
 
-abbrev pub seen_as : Reign → Seen → Option Bool
+abbrev pub seen_as : KingPhase → Seen → Option Bool
 seen_as reign (Shows shown) = None
 seen_as reign (Holds register) =
     if register.level == reign.level then heard_as reign register.heard else None
 
--- Where a line is on what a correct node hears in a turn's column at its level: whether that is the
--- turn. Else nothing.
-abbrev pub hears : Reign → Note → Option Bool
+-- If a line is on what a correct node hears in a phase's column at its level: whether that is the
+-- phase. Else nothing.
+abbrev pub hears : KingPhase → Note → Option Bool
 hears reign note =
     if (note.column == reign.column) && not note.is_faulty then seen_as reign note.seen else None
 
@@ -92,31 +92,31 @@ abbrev pub IsBefore : (column from : ℕ) → List Note → Type 0
 IsBefore column from notes =
     (k : ℕ) (d : Note) → k < length notes → k < from → (slice_index_or notes k d).column < column
 
--- some line says so of a turn
-pub record HasHearer (reign : Reign) (notes : List Note) (same : Bool) : Type 0 where
+-- some line says so of a phase
+pub record HasHearer (reign : KingPhase) (notes : List Note) (same : Bool) : Type 0 where
   pub place : ℕ
   pub inside : place < length notes
   pub is : (d : Note) → hears reign (slice_index_or notes place d) ≡ Some same
 
--- whether another turn is heard
+-- whether another phase is heard
 abbrev pub is_other : Option Bool → Bool
 is_other (Some true) = false
 is_other (Some false) = true
 is_other None = false
 
--- no line says that another turn is heard
-abbrev pub IsHeardByAll : Reign → List Note → Type 0
+-- no line says that another phase is heard
+abbrev pub IsHeardByAll : KingPhase → List Note → Type 0
 IsHeardByAll reign notes =
     (k : ℕ) (d : Note) → k < length notes
     → is_other (hears reign (slice_index_or notes k d)) ≡ false
 
--- a turn has a whole frame where all hear it, and else a broken one
-abbrev pub IsFramed : Reign → List Note → (common : Bool) → Type 0
+-- a phase has a whole frame if all hear it, and else a broken one
+abbrev pub IsFramed : KingPhase → List Note → (common : Bool) → Type 0
 IsFramed reign notes true = IsHeardByAll reign notes
 IsFramed reign notes false = HasHearer reign notes false
 
--- a turn is one that some correct node hears, in a frame that says whether all do
-pub record IsTurnSaid (notes : List Note) (reign : Reign) : Type 0 where
+-- a phase is one that some correct node hears, in a frame that says whether all do
+pub record IsTurnSaid (notes : List Note) (reign : KingPhase) : Type 0 where
   pub heard : HasHearer reign notes true
   pub framed : IsFramed reign notes reign.is_common
 
@@ -151,7 +151,7 @@ pub record HasVotes (notes : List Note) (level blocks : ℕ) : Type 0 where
   pub inside : place < length notes
   pub is : (d : Note) → votes_at level (slice_index_or notes place d) ≡ Some blocks
 
--- the blocks of a caption are those of a line, and there are none where no line has votes
+-- the blocks of a caption are those of a line, and there are none if no line has votes
 abbrev pub HasBlocks : List Note → (level : ℕ) → Option ℕ → Type 0
 HasBlocks notes level (Some blocks) = HasVotes notes level blocks
 HasBlocks notes level None = All (λ note. votes_at level note ≡ None) notes

@@ -89,7 +89,7 @@ fn mark_notes(trace: &mut Trace, pasts: &mut Vec<Past>) -> Result<(), ChartError
     Ok(())
 }
 
-/// Marks the outputs that stand for no value, as the lines behind them say.
+/// Marks the outputs that stand for no value, as the lines after them say.
 fn mark_lost(notes: &mut [Note]) {
     let mut later = None;
     for note in notes.iter_mut().rev() {

@@ -1,7 +1,7 @@
-//! Lays out a trace: below the outputs a strip for each level, with the kings' turns above it.
+//! Lays out a trace: below the outputs a strip for each level, with the kings' phases above it.
 
 use crate::trace_reading::MOST_LEVELS;
-use crate::traces::{Heard, Level, Note, Register, Reign, Seen, Title, Trace};
+use crate::traces::{Heard, KingPhase, Level, Note, Register, Seen, Title, Trace};
 use picture_parts::{ChartError, MOST_COLUMNS, line_top};
 use std::alloc::{AllocFailed, Global};
 
@@ -13,19 +13,19 @@ const STRIPS: usize = MOST_LEVELS as usize + 1;
 struct Strip {
     /// Whether some node takes part in the level.
     is_there: bool,
-    /// How many kings' turns stand in one column at most.
+    /// How many kings' phases stand in one column at most.
     lanes: u32,
     /// How many blocks vote.
     blocks: Option<u64>,
-    /// The top of its kings' turns, in each band.
+    /// The top of its kings' phases, in each band.
     top: u32,
     /// The top of its cells, in each band.
     cells: u32,
 }
 
-/// A turn that a node hears.
-fn reign_of(column: u32, level: u64, heard: &Heard) -> Reign {
-    Reign {
+/// A phase that a node hears.
+fn reign_of(column: u32, level: u64, heard: &Heard) -> KingPhase {
+    KingPhase {
         column,
         level,
         king: heard.king,
@@ -36,13 +36,13 @@ fn reign_of(column: u32, level: u64, heard: &Heard) -> Reign {
     }
 }
 
-/// Adds a turn to those of its column, which stand from place `from` on, if it is not there.
-/// Answers how many of its level there are then.
+/// Adds a phase to those of its column, which stand from place `from` on, if it is not there.
+/// Answers how many of its level there are then, or 0 if it was there.
 fn add_reign(
-    reigns: &mut Vec<Reign>,
+    reigns: &mut Vec<KingPhase>,
     from: usize,
-    mut new: Reign,
-) -> Result<u32, AllocFailed<Reign>> {
+    mut new: KingPhase,
+) -> Result<u32, AllocFailed<KingPhase>> {
     for i in from..reigns.len() {
         let old = reigns[i];
         if old.level == new.level {
@@ -66,12 +66,12 @@ fn add_reign(
 
 /// Takes what a node hears at a level, if it does.
 fn take_register(
-    reigns: &mut Vec<Reign>,
+    reigns: &mut Vec<KingPhase>,
     from: usize,
     strip: &mut Strip,
     note: &Note,
     register: &Register,
-) -> Result<(), AllocFailed<Reign>> {
+) -> Result<(), AllocFailed<KingPhase>> {
     strip.is_there = true;
     if let Some(heard) = &register.heard {
         strip.blocks = Some(heard.votes.len() as u64);
@@ -84,7 +84,7 @@ fn take_register(
     Ok(())
 }
 
-/// Finds the kings' turns that correct nodes hear, and what is known of each strip.
+/// Finds the kings' phases that correct nodes hear, and what is known of each strip.
 fn find_reigns(trace: &mut Trace, strips: &mut [Strip]) -> Result<(), ChartError> {
     let mut from = 0;
     for note in trace.notes.iter() {
@@ -119,7 +119,7 @@ fn stack(strips: &mut [Strip], nodes: u16) -> u32 {
     y
 }
 
-/// Gives each line and each turn its place.
+/// Gives each line and each phase its place.
 fn place_all(trace: &mut Trace, strips: &[Strip]) {
     let mut place = 0;
     for note in trace.notes.iter_mut() {

@@ -1,13 +1,13 @@
 //! Pictures, in SVG, of what `trace` writes: a column for each configuration, a line of cells for
-//! each node, and a strip for each level, with the kings' turns above it.
+//! each node, and a strip for each level, with the kings' phases above it.
 //!
 //! That the picture is the defined one of a trace is proved ([`put_trace_picture`]), that its lines
-//! stand in their columns, lines and strips, and that just the kings' turns are there which correct
-//! nodes hear ([`is_trace_laid`]). That all that `trace` writes is read, how wide columns are, and
-//! who is found hit, is not.
+//! stand in their columns, lines and strips, and that just the kings' phases are there which
+//! correct nodes hear ([`is_trace_laid`]). That all that `trace` writes is read, how wide columns
+//! are, and who is found hit, is not.
 #![tactic(auto)]
 
-// As `?` behind a part of a text that is written, but with no call of its own.
+// As `?` after a part of a text that is written, but with no call of its own.
 macro_rules! written {
     ($part:expr) => {
         match $part {

@@ -12,7 +12,7 @@ use crate::trace_printing::{held_word, put_number_or_none};
 use crate::traces::{Held, Note, Register, Seen, Title};
 use edge_io::{Piece, Sink, WriteFault, put_all, put_pieces};
 use picture_parts::{
-    Face, Frame, Spot, band_top, left, middle, put_column_head, put_cross, put_hover_front,
+    CellPosition, Face, Frame, band_top, left, middle, put_column_head, put_cross, put_hover_front,
     put_node_label, put_number_at, put_rectangle, put_shown, spot_top, width,
 };
 
@@ -35,7 +35,7 @@ pub fn put_register_ground<K: Sink>(
 }
 
 /// Draws what lies on it: nothing, dots, or a frame.
-pub fn put_cover<K: Sink>(sink: &mut K, spot: Spot, held: Held) -> Result<(), WriteFault>
+pub fn put_cover<K: Sink>(sink: &mut K, spot: CellPosition, held: Held) -> Result<(), WriteFault>
     ensures { Puts result (cover spot held) (K.told sink.old) (K.told sink.new) }
 {
     let x = left(spot);
@@ -75,7 +75,11 @@ pub fn put_cover<K: Sink>(sink: &mut K, spot: Spot, held: Held) -> Result<(), Wr
 }
 
 /// Writes a value, or a cross.
-pub fn put_value<K: Sink>(sink: &mut K, spot: Spot, value: Option<u64>) -> Result<(), WriteFault>
+pub fn put_value<K: Sink>(
+    sink: &mut K,
+    spot: CellPosition,
+    value: Option<u64>,
+) -> Result<(), WriteFault>
     ensures { Puts result (value_text spot value) (K.told sink.old) (K.told sink.new) }
 {
     match value {
@@ -84,7 +88,7 @@ pub fn put_value<K: Sink>(sink: &mut K, spot: Spot, value: Option<u64>) -> Resul
     }
 }
 
-/// Writes which level a register is of, where the pointer rests on it.
+/// Writes which level a register is of, said when the pointer rests on it.
 fn put_level_told<K: Sink>(sink: &mut K, level: u64) -> Result<(), WriteFault>
     ensures { Puts result (level_told level) (K.told sink.old) (K.told sink.new) }
 {
@@ -106,10 +110,10 @@ fn put_held_told<K: Sink>(sink: &mut K, held: Held) -> Result<(), WriteFault>
     put_all(sink, b"</title>\n")
 }
 
-/// Writes what is told of a register where the pointer rests on it.
+/// Writes what is said of a register when the pointer rests on it.
 fn put_register_hover<K: Sink>(
     sink: &mut K,
-    spot: Spot,
+    spot: CellPosition,
     node: u64,
     register: &Register,
 ) -> Result<(), WriteFault>
@@ -122,10 +126,10 @@ fn put_register_hover<K: Sink>(
     put_held_told(sink, register.held)
 }
 
-/// Draws a register, with what is told of it.
+/// Draws a register, with what is said of it.
 fn put_register_at<K: Sink>(
     sink: &mut K,
-    spot: Spot,
+    spot: CellPosition,
     node: u64,
     register: &Register,
 ) -> Result<(), WriteFault>
@@ -138,7 +142,11 @@ fn put_register_at<K: Sink>(
 }
 
 /// Draws a register within its group.
-fn put_register_in<K: Sink>(sink: &mut K, spot: Spot, register: &Register) -> Result<(), WriteFault>
+fn put_register_in<K: Sink>(
+    sink: &mut K,
+    spot: CellPosition,
+    register: &Register,
+) -> Result<(), WriteFault>
     ensures { Puts result (register_in spot register.now) (K.told sink.old) (K.told sink.new) }
 {
     written!(put_rectangle(sink, spot));
@@ -147,8 +155,8 @@ fn put_register_in<K: Sink>(sink: &mut K, spot: Spot, register: &Register) -> Re
     put_value(sink, spot, register.value)
 }
 
-/// What is drawn of an output: that of a faulty node counts for nothing, and where a node has no
-/// value it shows none.
+/// What is drawn of an output: that of a faulty node counts for nothing, and if a node has no value
+/// it shows none.
 pub fn face_in(is_faulty: bool, is_lost: bool, output: u64) -> Face
     ensures { result ≡ face_in is_faulty is_lost output }
 {
@@ -162,7 +170,7 @@ pub fn face_in(is_faulty: bool, is_lost: bool, output: u64) -> Face
 /// Draws the register of a line. A faulty node is hatched, whatever it holds.
 fn put_held_cell<K: Sink>(
     sink: &mut K,
-    spot: Spot,
+    spot: CellPosition,
     node: u64,
     is_faulty: bool,
     register: &Register,
@@ -179,7 +187,7 @@ fn put_held_cell<K: Sink>(
 /// Draws what a line is about.
 fn put_seen_cell<K: Sink>(
     sink: &mut K,
-    spot: Spot,
+    spot: CellPosition,
     note: &Note,
     seen: &Seen,
 ) -> Result<(), WriteFault>
@@ -209,10 +217,10 @@ fn put_note_head<K: Sink>(sink: &mut K, frame: Frame, note: &Note) -> Result<(),
 }
 
 /// Where a line is drawn.
-fn note_spot(frame: Frame, note: &Note) -> Spot
+fn note_spot(frame: Frame, note: &Note) -> CellPosition
     ensures { result ≡ note_spot frame note.now }
 {
-    Spot {
+    CellPosition {
         frame,
         column: note.column,
         top: note.top,
@@ -220,7 +228,7 @@ fn note_spot(frame: Frame, note: &Note) -> Spot
 }
 
 /// Draws a line in its spot.
-fn put_note_at<K: Sink>(sink: &mut K, spot: Spot, note: &Note) -> Result<(), WriteFault>
+fn put_note_at<K: Sink>(sink: &mut K, spot: CellPosition, note: &Note) -> Result<(), WriteFault>
     ensures { Puts result (note_at spot note.now) (K.told sink.old) (K.told sink.new) }
 {
     written!(put_note_head(sink, spot.frame, note));

@@ -1,8 +1,8 @@
-//! Whether the lines, the kings' turns and the levels of a trace stand where they belong.
+//! Whether the lines, the kings' phases and the levels of a trace stand where they belong.
 
 ghost use Rattle.std.specs.Prelude.{◌≡◌, ◌≤◌, ◌<◌, ◌^◌, ℕ, All, AllPairs, true, IfSome, length};
 ghost use Rattle.std.specs.Prelude.{slice_index_or};
-ghost use Rattle.trace_pictures.specs.declared.traces.Reign.{Reign};
+ghost use Rattle.trace_pictures.specs.declared.traces.KingPhase.{KingPhase};
 ghost use Rattle.std.specs.List.{count_by};
 ghost use Rattle.std.specs.List.Sorted.{IsStrictlyIncreasing};
 ghost use Rattle.trace_pictures.specs.TraceLaid.{AreApart, AreLinesLaid, AreStacked, HasTurn};
@@ -11,7 +11,7 @@ ghost use Rattle.trace_pictures.specs.TraceLaid.{IsTitleLaid, IsTraceLaid, IsTur
 ghost use Rattle.trace_pictures.specs.TraceLaid.{shows};
 
 use crate::trace_said::is_trace_said;
-use crate::traces::{Heard, Level, Note, Reign, Seen, Title, Trace};
+use crate::traces::{Heard, KingPhase, Level, Note, Seen, Title, Trace};
 use picture_parts::{MOST_COLUMNS, line_top};
 
 /// Whether a line says what its node shows.
@@ -28,13 +28,7 @@ fn shows(note: &Note) -> bool
 fn strip_of(levels: &[Level], level: u64) -> Option<Level>
     ensures { IfSome result (IsStripOf levels.now level) }
 {
-    for k in 0..levels.len() {
-        let strip = levels[k];
-        if strip.level == level {
-            return Some(strip);
-        }
-    }
-    None
+    levels.iter().copied().find(|strip| strip.level == level)
 }
 
 /// Whether a line stands at the height of its node, of which so many stand above.
@@ -56,12 +50,7 @@ fn is_at_height(levels: &[Level], place: u64, note: &Note) -> bool
 pub fn ids_rise(ids: &[u64]) -> bool
     ensures { result ≡ true → IsStrictlyIncreasing ids.now }
 {
-    for k in 1..ids.len() {
-        if ids[k - 1] >= ids[k] {
-            return false;
-        }
-    }
-    true
+    ids.windows(2).all(|pair| pair[0] < pair[1])
 }
 
 /// Whether the id at a place is that of a node.
@@ -72,8 +61,8 @@ pub fn has_id(ids: &[u64], place: u64, node: u64) -> bool
     place < ids.len() && ids[place] == node
 }
 
-/// Whether a line is on the node whose turn it is, and stands in its column and line, where so many
-/// outputs were shown before that of its node.
+/// Whether a line is on the node that is due, and stands in its column and line, if so many outputs
+/// were shown before that of its node.
 fn is_note_laid(levels: &[Level], nodes: u16, ids: &[u64], before: u64, note: &Note) -> bool
     requires { 1 ≤ nodes }
     ensures { result ≡ true → IsNoteLaid levels.now nodes ids.now before note.now }
@@ -104,8 +93,8 @@ fn outputs_laid(levels: &[Level], nodes: u16, ids: &[u64], notes: &[Note]) -> Op
     Some(shown)
 }
 
-/// The place of the first turn of a column, or of a later one.
-fn first_turn(reigns: &[Reign], column: u32) -> usize {
+/// The place of the first phase of a column, or of a later one.
+fn first_turn(reigns: &[KingPhase], column: u32) -> usize {
     let mut low = 0;
     let mut high = reigns.len();
     for _ in 0..32 {
@@ -122,8 +111,8 @@ fn first_turn(reigns: &[Reign], column: u32) -> usize {
     low
 }
 
-/// Whether a turn is the one that is heard.
-fn is_turn_of(reign: Reign, column: u32, level: u64, heard: &Heard) -> bool
+/// Whether a phase is the one that is heard.
+fn is_turn_of(reign: KingPhase, column: u32, level: u64, heard: &Heard) -> bool
     ensures { result ≡ true → IsTurnOf column level heard.now reign }
 {
     reign.column == column
@@ -132,8 +121,8 @@ fn is_turn_of(reign: Reign, column: u32, level: u64, heard: &Heard) -> bool
         && reign.turn == heard.turn
 }
 
-/// Whether a turn that is heard is drawn.
-fn has_turn_of(reigns: &[Reign], column: u32, level: u64, heard: &Heard) -> bool
+/// Whether a phase that is heard is drawn.
+fn has_turn_of(reigns: &[KingPhase], column: u32, level: u64, heard: &Heard) -> bool
     ensures { result ≡ true → HasTurnOf reigns.now column level heard.now }
 {
     for k in first_turn(reigns, column)..reigns.len() {
@@ -147,8 +136,8 @@ fn has_turn_of(reigns: &[Reign], column: u32, level: u64, heard: &Heard) -> bool
     false
 }
 
-/// Whether the turn that a line says is drawn, if a correct node hears it.
-fn has_turn(reigns: &[Reign], note: &Note) -> bool
+/// Whether the phase that a line says is drawn, if a correct node hears it.
+fn has_turn(reigns: &[KingPhase], note: &Note) -> bool
     ensures { result ≡ true → HasTurn reigns.now note.now }
 {
     if note.is_faulty {
@@ -163,20 +152,15 @@ fn has_turn(reigns: &[Reign], note: &Note) -> bool
     }
 }
 
-/// Whether all turns that correct nodes hear are drawn.
-fn have_turns(reigns: &[Reign], notes: &[Note]) -> bool
+/// Whether all phases that correct nodes hear are drawn.
+fn have_turns(reigns: &[KingPhase], notes: &[Note]) -> bool
     ensures { result ≡ true → All (HasTurn reigns.now) notes.now }
 {
-    for k in 0..notes.len() {
-        if !has_turn(reigns, &notes[k]) {
-            return false;
-        }
-    }
-    true
+    notes.iter().all(|note| has_turn(reigns, note))
 }
 
-/// Whether a turn stands above the cells of its level.
-fn is_turn_laid(levels: &[Level], reign: Reign) -> bool
+/// Whether a phase stands above the cells of its level.
+fn is_turn_laid(levels: &[Level], reign: KingPhase) -> bool
     ensures { result ≡ true → IsTurnLaid levels.now reign }
 {
     match strip_of(levels, reign.level) {
@@ -187,20 +171,15 @@ fn is_turn_laid(levels: &[Level], reign: Reign) -> bool
     }
 }
 
-/// Whether all turns do.
-fn are_turns_laid(levels: &[Level], reigns: &[Reign]) -> bool
+/// Whether all phases do.
+fn are_turns_laid(levels: &[Level], reigns: &[KingPhase]) -> bool
     ensures { result ≡ true → All (IsTurnLaid levels.now) reigns.now }
 {
-    for k in 0..reigns.len() {
-        if !is_turn_laid(levels, reigns[k]) {
-            return false;
-        }
-    }
-    true
+    reigns.iter().all(|reign| is_turn_laid(levels, *reign))
 }
 
-/// Whether a turn stands above a later one, if both are of one column and level.
-fn is_above(turn: Reign, later: Reign) -> bool
+/// Whether a phase stands above a later one, if both are of one column and level.
+fn is_above(turn: KingPhase, later: KingPhase) -> bool
     ensures { result ≡ true → AreApart turn later }
 {
     turn.column != later.column
@@ -208,10 +187,10 @@ fn is_above(turn: Reign, later: Reign) -> bool
         || u64::from(turn.top) + 16 <= u64::from(later.top)
 }
 
-/// Whether the turns of these places do.
-fn are_above(reigns: &[Reign], from: usize, to: usize, later: Reign) -> bool
+/// Whether the phases of these places do.
+fn are_above(reigns: &[KingPhase], from: usize, to: usize, later: KingPhase) -> bool
     requires { to ≤ length reigns.now }
-    ensures { result ≡ true → (i : ℕ) (d : Reign) → from ≤ i → i < to
+    ensures { result ≡ true → (i : ℕ) (d : KingPhase) → from ≤ i → i < to
         → AreApart (slice_index_or reigns.now i d) later }
 {
     for i in from..to {
@@ -222,8 +201,8 @@ fn are_above(reigns: &[Reign], from: usize, to: usize, later: Reign) -> bool
     true
 }
 
-/// Whether no turn covers another one. Columns rise.
-fn are_apart(reigns: &[Reign]) -> bool
+/// Whether no phase covers another one. Columns rise.
+fn are_apart(reigns: &[KingPhase]) -> bool
     ensures { result ≡ true → AllPairs AreApart reigns.now }
 {
     let mut column = 0;
@@ -244,7 +223,7 @@ fn are_apart(reigns: &[Reign]) -> bool
     true
 }
 
-/// Whether a word stands before the strip of its level, at the front of a band.
+/// Whether a word stands before the strip of its level, at the beginning of a band.
 fn is_title_laid(levels: &[Level], title: Title) -> bool
     ensures { result ≡ true → IsTitleLaid levels.now title }
 {
@@ -258,12 +237,7 @@ fn is_title_laid(levels: &[Level], title: Title) -> bool
 fn are_titles_laid(levels: &[Level], titles: &[Title]) -> bool
     ensures { result ≡ true → All (IsTitleLaid levels.now) titles.now }
 {
-    for k in 0..titles.len() {
-        if !is_title_laid(levels, titles[k]) {
-            return false;
-        }
-    }
-    true
+    titles.iter().all(|title| is_title_laid(levels, *title))
 }
 
 /// Whether strips stand one below the other, from one height to another.
@@ -287,7 +261,7 @@ fn are_stacked(nodes: u16, below: u64, from: u64, levels: &[Level], end: u32) ->
     }
 }
 
-/// Whether the lines, the turns and the levels of a trace stand where they belong.
+/// Whether the lines, the phases and the levels of a trace stand where they belong.
 pub fn is_trace_laid(trace: &Trace) -> bool
     ensures { result ≡ true → IsTraceLaid trace.now }
 {

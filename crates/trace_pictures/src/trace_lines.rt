@@ -26,7 +26,7 @@ pub struct TraceLine {
     pub seen: Seen,
 }
 
-// Written out, so that what lets go of one calls this, and no more.
+// Written out, so that code that drops one has a single call.
 impl Drop for TraceLine {
     fn drop(self) {
         let TraceLine {
@@ -70,7 +70,7 @@ pub struct Reader<'a> {
     lacks_memory: bool,
 }
 
-/// The configuration and the node with which a line begins, and the word behind these.
+/// The configuration and the node with which a line begins, and the word after these.
 #[derive(Clone, Copy)]
 pub struct Front<'a> {
     pub t: u32,
@@ -156,13 +156,13 @@ impl<'a> Reader<'a> {
         self.want(is_there);
     }
 
-    /// The number behind a word that must stand there.
+    /// The number after a word that must stand there.
     pub fn number_after(&mut self, key: &[u8]) -> u64 {
         self.pass(key);
         self.number()
     }
 
-    /// The number, or `none`, behind a word that must stand there.
+    /// The number, or `none`, after a word that must stand there.
     pub fn number_or_none_after(&mut self, key: &[u8]) -> Option<u64> {
         self.pass(key);
         self.number_or_none()
@@ -181,7 +181,7 @@ impl<'a> Reader<'a> {
         Held::Unmarked
     }
 
-    /// What a king's turn has come to.
+    /// What a king's phase has come to.
     pub fn turn(&mut self) -> Turn {
         let word = self.word();
         if word == b"mark".as_slice() {
@@ -215,7 +215,7 @@ impl<'a> Reader<'a> {
         votes
     }
 
-    /// What a node hears, behind the word `votes`.
+    /// What a node hears, after the word `votes`.
     fn heard(&mut self, alloc: Global) -> Heard {
         Heard {
             votes: self.votes(alloc),
@@ -239,7 +239,7 @@ impl<'a> Reader<'a> {
         }
     }
 
-    /// A register, behind the word `level`.
+    /// A register, after the word `level`.
     fn register(&mut self, alloc: Global) -> Register {
         Register {
             level: self.number(),
@@ -249,7 +249,7 @@ impl<'a> Reader<'a> {
         }
     }
 
-    /// What a node shows, behind the word `number`.
+    /// What a node shows, after the word `number`.
     pub fn output(&mut self) -> Output {
         Output {
             number: self.number_or_none(),
@@ -266,8 +266,8 @@ impl<'a> Reader<'a> {
         Seen::Shows(self.output())
     }
 
-    /// The front of a line: `at`, a configuration, `node`, an id, `faulty` if it stands there, and
-    /// the word behind these.
+    /// The beginning of a line: `at`, a configuration, `node`, an id, `faulty` if it stands there,
+    /// and the word after these.
     pub fn front(&mut self) -> Front<'a> {
         self.pass(b"at");
         let t = self.small_number();
@@ -294,7 +294,7 @@ impl<'a> Reader<'a> {
     }
 }
 
-/// How many words stand between `votes` and `lead` at most, with this.
+/// How many words stand after `votes` at most, the word `lead` included.
 const MOST_BLOCKS: usize = 257;
 
 /// Reads a line of a trace.

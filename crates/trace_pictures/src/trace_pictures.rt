@@ -11,7 +11,7 @@ ghost use Rattle.trace_pictures.specs.TracePictures.{trace_facts, trace_front, t
 use crate::strips::{put_note_pictures, put_titles};
 use crate::traces::{Level, Trace};
 use crate::turns::put_reigns;
-use edge_io::{Gathered, Piece, Sink, WriteFault, put_all, put_pieces};
+use edge_io::{Piece, Sink, WriteFault, Writer, put_all, put_pieces};
 use picture_parts::{
     Frame, bottom, picture_width, put_colour_legend, put_front, put_ground, put_mark_at,
     put_number_caption, put_span,
@@ -68,7 +68,7 @@ fn put_blocks<K: Sink>(sink: &mut K, blocks: Option<u64>) -> Result<(), WriteFau
     }
 }
 
-/// Writes the front of a level's caption.
+/// Writes the beginning of a level's caption.
 fn put_level_front<K: Sink>(sink: &mut K, y: u64, level: u64) -> Result<(), WriteFault>
     ensures { Puts result (level_front y level) (K.told sink.old) (K.told sink.new) }
 {
@@ -173,7 +173,7 @@ fn put_trace_facts<K: Sink>(sink: &mut K, trace: &Trace) -> Result<(), WriteFaul
     )
 }
 
-/// Writes the front, with the picture's width and height.
+/// Writes the beginning, with the picture's width and height.
 fn put_trace_front<K: Sink>(sink: &mut K, trace: &Trace) -> Result<(), WriteFault>
     ensures { Puts result (trace_front trace.now) (K.told sink.old) (K.told sink.new) }
 {
@@ -216,7 +216,7 @@ fn put_parts<K: Sink>(sink: &mut K, trace: &Trace) -> Result<(), WriteFault>
 pub fn put_trace_picture<K: Sink>(sink: &mut K, trace: &Trace) -> Result<(), WriteFault>
     ensures { Puts result (trace_picture trace.now) (K.told sink.old) (K.told sink.new) }
 {
-    let mut parts = Gathered::new(sink);
+    let mut parts = Writer::gathering(sink);
     let written = put_parts(&mut parts, trace);
-    parts.finish(written)
+    parts.finish_with(written)
 }

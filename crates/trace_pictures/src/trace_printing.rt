@@ -12,7 +12,7 @@ ghost use Rattle.trace_pictures.specs.Traces.{vote_word};
 use crate::traces::{Heard, Held, Note, Output, Register, Seen, Turn};
 use edge_io::{Piece, Sink, WriteFault, put_all, put_number, put_pieces};
 
-/// What stands behind the id of a faulty node.
+/// What stands after the id of a faulty node.
 pub fn faulty_word(is_faulty: bool) -> &'static [u8]
     ensures { result.now ≡ faulty_word is_faulty }
 {

@@ -12,13 +12,13 @@ pub const MOST_NODES: usize = 256;
 /// The highest number of a level, with the lowest level as 1.
 pub const MOST_LEVELS: u64 = 16;
 
-/// A trace of which the front was read.
+/// A trace of which the beginning was read.
 #[derive(Drop)]
 struct Draft {
     trace: Trace,
     /// Which of its nodes the last line is about.
     place: usize,
-    /// The level of that line, or 0 where it is about the node's state.
+    /// The level of that line, or 0 if it is about the node's state.
     level: u64,
     /// How many digits the longest number to be drawn has.
     digits: u16,
@@ -204,7 +204,7 @@ fn take_bytes(alloc: Global, draft: &mut Draft, bytes: &[u8]) -> Result<(), Trac
 }
 
 /// Reads a trace. The error is the first line that is not what should stand there, which is the
-/// line after the last where one is missing; or want of memory.
+/// line after the last if one is missing; or want of memory.
 pub fn read_trace(alloc: Global, text: &[u8]) -> Result<Trace, ChartError> {
     let mut draft = Draft {
         trace: empty(alloc),

@@ -1,5 +1,5 @@
 //! Whether the lines of a trace say what is drawn of it: which outputs stand for no value, which
-//! turns are heard, and what is known of a level.
+//! phases are heard, and what is known of a level.
 
 ghost use Rattle.std.specs.Prelude.{◌≡◌, length, map, All, true, None};
 ghost use Rattle.std.specs.List.{range_with_len};
@@ -26,26 +26,16 @@ fn output_said(note: &Note) -> Option<u64>
 fn are_below(modulus: u64, notes: &[Note]) -> bool
     ensures { result ≡ true → All (λ note. IsBelow modulus (output_said note)) notes.now }
 {
-    for k in 0..notes.len() {
-        if !is_below(modulus, output_said(&notes[k])) {
-            return false;
-        }
-    }
-    true
+    notes
+        .iter()
+        .all(|note| is_below(modulus, output_said(note)))
 }
 
 /// Whether an output is shown.
 fn has_output(notes: &[Note], wanted: u64) -> bool
     ensures { result ≡ true → HasOutput output_said notes.now wanted }
 {
-    for k in 0..notes.len() {
-        if let Some(output) = output_said(&notes[k]) {
-            if output == wanted {
-                return true;
-            }
-        }
-    }
-    false
+    notes.iter().any(|note| output_said(note) == Some(wanted))
 }
 
 /// Whether a number is the least one above all outputs.
@@ -55,7 +45,7 @@ fn is_modulus_of(notes: &[Note], modulus: u64) -> bool
     are_below(modulus, notes) && (modulus == 0 || has_output(notes, modulus - 1))
 }
 
-/// What the last register holds of a line and of those behind it, up to the next output.
+/// What the last register holds of a line and of those after it, up to the next output.
 pub fn value_before(seen: &Seen, later: Option<Option<u64>>) -> Option<Option<u64>>
     ensures { result ≡ value_before seen.now later }
 {
@@ -130,12 +120,7 @@ fn is_of(level: u64, seen: &Seen) -> bool
 fn has_line(notes: &[Note], level: u64) -> bool
     ensures { result ≡ true → HasLine notes.now level }
 {
-    for k in 0..notes.len() {
-        if is_of(level, &notes[k].seen) {
-            return true;
-        }
-    }
-    false
+    notes.iter().any(|note| is_of(level, &note.seen))
 }
 
 /// Whether some line has votes of so many blocks.
@@ -156,12 +141,7 @@ fn has_votes(notes: &[Note], level: u64, blocks: u64) -> bool
 fn lack_votes(notes: &[Note], level: u64) -> bool
     ensures { result ≡ true → All (λ note. votes_at level note ≡ None) notes.now }
 {
-    for k in 0..notes.len() {
-        if votes_at(level, &notes[k]).is_some() {
-            return false;
-        }
-    }
-    true
+    notes.iter().all(|note| votes_at(level, note).is_none())
 }
 
 /// Whether the blocks of a caption are those of a line.

@@ -12,7 +12,7 @@ pub enum Held {
     Locked,
 }
 
-/// Which of its three instructions a king's turn has come to.
+/// Which of its three instructions a king's phase has come to.
 #[derive(Clone, Copy, PartialEq, Eq)]
 pub enum Turn {
     Keep,
@@ -32,7 +32,7 @@ pub struct Heard {
     pub least: Option<u64>,
 }
 
-// Written out, so that what lets go of one calls this, and no more.
+// Written out, so that code that drops one has a single call.
 impl Drop for Heard {
     fn drop(self) {
         let Heard {
@@ -63,7 +63,7 @@ pub struct Register {
     pub heard: Option<Heard>,
 }
 
-// Written out, so that what lets go of one calls this, and no more.
+// Written out, so that code that drops one has a single call.
 impl Drop for Register {
     fn drop(self) {
         let Register {
@@ -100,7 +100,7 @@ pub struct Note {
     pub seen: Seen,
 }
 
-// Written out, so that what lets go of one calls this, and no more.
+// Written out, so that code that drops one has a single call.
 impl Drop for Note {
     fn drop(self) {
         let Note {
@@ -117,16 +117,16 @@ impl Drop for Note {
     }
 }
 
-/// A king's turn, as some correct nodes hear it.
+/// A king's phase, as some correct nodes hear it.
 #[derive(Clone, Copy)]
-pub struct Reign {
+pub struct KingPhase {
     pub column: u32,
     pub level: u64,
     pub king: u64,
     pub turn: Turn,
     /// How many others of this column and level stand before it.
     pub lane: u32,
-    /// Whether all correct nodes hear it that have that level.
+    /// Whether all correct nodes that have that level hear it.
     pub is_common: bool,
     /// The top of its cell, in its band.
     pub top: u32,
@@ -148,7 +148,7 @@ pub struct Level {
     pub level: u64,
     /// How many blocks vote at it, if a line says it.
     pub blocks: Option<u64>,
-    /// The top of its kings' turns, in each band.
+    /// The top of its kings' phases, in each band.
     pub top: u32,
     /// The top of its cells, in each band.
     pub cells: u32,
@@ -164,14 +164,14 @@ pub struct Trace {
     pub cells: u32,
     /// The lines.
     pub notes: Vec<Note>,
-    pub reigns: Vec<Reign>,
+    pub reigns: Vec<KingPhase>,
     pub titles: Vec<Title>,
     pub levels: Vec<Level>,
     /// The columns where an era must begin.
     pub eras: Vec<u32>,
 }
 
-// Written out, so that what lets go of one calls this, and no more.
+// Written out, so that code that drops one has a single call.
 impl Drop for Trace {
     fn drop(self) {
         let Trace {
@@ -202,8 +202,8 @@ impl Trace {
         &self.notes
     }
 
-    /// The kings' turns.
-    pub fn turns(&self) -> &[Reign]
+    /// The kings' phases.
+    pub fn turns(&self) -> &[KingPhase]
         ensures { result.now ≡ self.now.reigns.items }
     {
         &self.reigns

@@ -1,4 +1,4 @@
-//! Draws the kings' turns.
+//! Draws the kings' phases.
 
 ghost use Rattle.std.specs.Prelude.{◌≡◌};
 ghost use Rattle.std.specs.List.{flat_map};
@@ -8,12 +8,12 @@ ghost use Rattle.trace_pictures.specs.Strips.{edge, gold_part, king_text, reign_
 ghost use Rattle.trace_pictures.specs.Strips.{reign_hover, reign_picture, reign_spot, share};
 
 use crate::trace_printing::turn_word;
-use crate::traces::{Reign, Turn};
+use crate::traces::{KingPhase, Turn};
 use edge_io::{Piece, Sink, WriteFault, put_pieces};
-use picture_parts::{Frame, Spot, configuration, left, middle, spot_top, width};
+use picture_parts::{CellPosition, Frame, configuration, left, middle, spot_top, width};
 
-/// How far a turn has come, as a part of its cell.
-pub fn share(spot: Spot, turn: Turn) -> u64
+/// How far a phase has come, as a part of its cell.
+pub fn share(spot: CellPosition, turn: Turn) -> u64
     ensures { result ≡ share (width spot) turn }
 {
     match turn {
@@ -23,7 +23,7 @@ pub fn share(spot: Spot, turn: Turn) -> u64
     }
 }
 
-/// A frame, broken where not all hear a turn.
+/// A frame, broken if not all hear a phase.
 pub fn edge(is_common: bool) -> &'static [u8]
     ensures { result.now ≡ edge is_common }
 {
@@ -36,7 +36,7 @@ pub fn edge(is_common: bool) -> &'static [u8]
 /// Draws a part of a cell in gold, and a frame about the cell.
 pub fn put_gold_part<'a, K: Sink>(
     sink: &mut K,
-    spot: Spot,
+    spot: CellPosition,
     part: u64,
     edge: &'a [u8],
 ) -> Result<(), WriteFault>
@@ -68,15 +68,23 @@ pub fn put_gold_part<'a, K: Sink>(
     )
 }
 
-/// Draws a turn: its front in gold, and a frame.
-fn put_reign_box<K: Sink>(sink: &mut K, spot: Spot, reign: Reign) -> Result<(), WriteFault>
+/// Draws a phase: its share in gold, and a frame.
+fn put_reign_box<K: Sink>(
+    sink: &mut K,
+    spot: CellPosition,
+    reign: KingPhase,
+) -> Result<(), WriteFault>
     ensures { Puts result (reign_box spot reign) (K.told sink.old) (K.told sink.new) }
 {
     put_gold_part(sink, spot, share(spot, reign.turn), edge(reign.is_common))
 }
 
-/// Writes what is told of a turn where the pointer rests on it.
-fn put_reign_hover<K: Sink>(sink: &mut K, spot: Spot, reign: Reign) -> Result<(), WriteFault>
+/// Writes what is said of a phase when the pointer rests on it.
+fn put_reign_hover<K: Sink>(
+    sink: &mut K,
+    spot: CellPosition,
+    reign: KingPhase,
+) -> Result<(), WriteFault>
     ensures { Puts result (reign_hover spot reign) (K.told sink.old) (K.told sink.new) }
 {
     put_pieces(
@@ -95,7 +103,7 @@ fn put_reign_hover<K: Sink>(sink: &mut K, spot: Spot, reign: Reign) -> Result<()
 }
 
 /// Writes the king, and ends a group.
-pub fn put_king<K: Sink>(sink: &mut K, spot: Spot, king: u64) -> Result<(), WriteFault>
+pub fn put_king<K: Sink>(sink: &mut K, spot: CellPosition, king: u64) -> Result<(), WriteFault>
     ensures { Puts result (king_text spot king) (K.told sink.old) (K.told sink.new) }
 {
     put_pieces(
@@ -112,8 +120,12 @@ pub fn put_king<K: Sink>(sink: &mut K, spot: Spot, king: u64) -> Result<(), Writ
     )
 }
 
-/// Draws a turn, with its king.
-fn put_reign_at<K: Sink>(sink: &mut K, spot: Spot, reign: Reign) -> Result<(), WriteFault>
+/// Draws a phase, with its king.
+fn put_reign_at<K: Sink>(
+    sink: &mut K,
+    spot: CellPosition,
+    reign: KingPhase,
+) -> Result<(), WriteFault>
     ensures { Puts result (reign_at spot reign) (K.told sink.old) (K.told sink.new) }
 {
     written!(put_reign_hover(sink, spot, reign));
@@ -121,26 +133,30 @@ fn put_reign_at<K: Sink>(sink: &mut K, spot: Spot, reign: Reign) -> Result<(), W
     put_king(sink, spot, reign.king)
 }
 
-/// Where a turn is drawn.
-fn reign_spot(frame: Frame, reign: Reign) -> Spot
+/// Where a phase is drawn.
+fn reign_spot(frame: Frame, reign: KingPhase) -> CellPosition
     ensures { result ≡ reign_spot frame reign }
 {
-    Spot {
+    CellPosition {
         frame,
         column: reign.column,
         top: reign.top,
     }
 }
 
-/// Draws a turn in its place.
-fn put_reign<K: Sink>(sink: &mut K, frame: Frame, reign: Reign) -> Result<(), WriteFault>
+/// Draws a phase in its place.
+fn put_reign<K: Sink>(sink: &mut K, frame: Frame, reign: KingPhase) -> Result<(), WriteFault>
     ensures { Puts result (reign_picture frame reign) (K.told sink.old) (K.told sink.new) }
 {
     put_reign_at(sink, reign_spot(frame, reign), reign)
 }
 
-/// Draws all turns.
-pub fn put_reigns<K: Sink>(sink: &mut K, frame: Frame, reigns: &[Reign]) -> Result<(), WriteFault>
+/// Draws all phases.
+pub fn put_reigns<K: Sink>(
+    sink: &mut K,
+    frame: Frame,
+    reigns: &[KingPhase],
+) -> Result<(), WriteFault>
     ensures { Puts result (flat_map (reign_picture frame) reigns.now)
         (K.told sink.old) (K.told sink.new) }
 {

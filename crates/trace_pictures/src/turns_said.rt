@@ -1,11 +1,11 @@
-//! Whether the turns that are drawn are heard, and in which frames.
+//! Whether the phases that are drawn are heard, and in which frames.
 
 ghost use Rattle.std.specs.Prelude.{◌≡◌, All, true};
 ghost use Rattle.trace_pictures.specs.TraceSaid.{ColumnsRise, HasHearer, IsBefore, IsFramed};
 ghost use Rattle.trace_pictures.specs.TraceSaid.{IsHeardByAll, IsTurnSaid, heard_as, hears};
 ghost use Rattle.trace_pictures.specs.TraceSaid.{is_other, is_same_turn, seen_as};
 
-use crate::traces::{Heard, Note, Reign, Seen, Turn};
+use crate::traces::{Heard, KingPhase, Note, Seen, Turn};
 
 /// Whether no line stands in a column before that of the line before it.
 pub fn columns_rise(notes: &[Note]) -> bool
@@ -22,7 +22,7 @@ pub fn columns_rise(notes: &[Note]) -> bool
     true
 }
 
-/// Whether two turns have come to the same instruction.
+/// Whether two phases have come to the same instruction.
 pub fn is_same_turn(turn: Turn, other: Turn) -> bool
     ensures { result ≡ is_same_turn turn other }
 {
@@ -34,8 +34,8 @@ pub fn is_same_turn(turn: Turn, other: Turn) -> bool
     }
 }
 
-/// Whether what is heard is a turn, if anything is.
-fn heard_as(reign: Reign, heard: &Option<Heard>) -> Option<bool>
+/// Whether what is heard is this phase, if anything is.
+fn heard_as(reign: KingPhase, heard: &Option<Heard>) -> Option<bool>
     ensures { result ≡ heard_as reign heard.now }
 {
     match heard {
@@ -44,8 +44,8 @@ fn heard_as(reign: Reign, heard: &Option<Heard>) -> Option<bool>
     }
 }
 
-/// The same where a line is on a register of the turn's level.
-fn seen_as(reign: Reign, seen: &Seen) -> Option<bool>
+/// The same if a line is on a register of the phase's level.
+fn seen_as(reign: KingPhase, seen: &Seen) -> Option<bool>
     ensures { result ≡ seen_as reign seen.now }
 {
     match seen {
@@ -60,9 +60,9 @@ fn seen_as(reign: Reign, seen: &Seen) -> Option<bool>
     }
 }
 
-/// Where a line is on what a correct node hears in a turn's column at its level: whether that is
-/// the turn.
-fn hears(reign: Reign, note: &Note) -> Option<bool>
+/// If a line is on what a correct node hears in a phase's column at its level: whether that is the
+/// phase.
+fn hears(reign: KingPhase, note: &Note) -> Option<bool>
     ensures { result ≡ hears reign note.now }
 {
     if note.column == reign.column && !note.is_faulty {
@@ -90,8 +90,8 @@ fn first_line(notes: &[Note], column: u32) -> usize {
     low
 }
 
-/// Whether some line says so of a turn.
-fn has_hearer(reign: Reign, notes: &[Note], same: bool) -> bool
+/// Whether some line says so of a phase.
+fn has_hearer(reign: KingPhase, notes: &[Note], same: bool) -> bool
     ensures { result ≡ true → HasHearer reign notes.now same }
 {
     for k in first_line(notes, reign.column)..notes.len() {
@@ -107,7 +107,7 @@ fn has_hearer(reign: Reign, notes: &[Note], same: bool) -> bool
     false
 }
 
-/// Whether the lines before a place stand in earlier columns, where columns rise.
+/// Whether the lines before a place stand in earlier columns, if columns rise.
 fn starts_at(column: u32, from: usize, notes: &[Note]) -> bool
     requires { ColumnsRise notes.now }
     ensures { result ≡ true → IsBefore column from notes.now }
@@ -121,8 +121,8 @@ fn starts_at(column: u32, from: usize, notes: &[Note]) -> bool
     notes[from - 1].column < column
 }
 
-/// Whether a line says that another turn is heard.
-fn hears_other(reign: Reign, note: &Note) -> bool
+/// Whether a line says that another phase is heard.
+fn hears_other(reign: KingPhase, note: &Note) -> bool
     ensures { result ≡ is_other (hears reign note.now) }
 {
     match hears(reign, note) {
@@ -132,9 +132,9 @@ fn hears_other(reign: Reign, note: &Note) -> bool
     }
 }
 
-/// Whether no line says that another turn is heard, where columns rise, and lines before a place
+/// Whether no line says that another phase is heard, if columns rise, and lines before a place
 /// stand in earlier columns.
-fn is_heard_from(reign: Reign, notes: &[Note], from: usize) -> bool
+fn is_heard_from(reign: KingPhase, notes: &[Note], from: usize) -> bool
     requires rise { ColumnsRise notes.now }
     requires before { IsBefore reign.column from notes.now }
     ensures { result ≡ true → IsHeardByAll reign notes.now }
@@ -151,8 +151,8 @@ fn is_heard_from(reign: Reign, notes: &[Note], from: usize) -> bool
     true
 }
 
-/// Whether no line says that another turn is heard, where columns rise.
-fn is_heard_by_all(reign: Reign, notes: &[Note]) -> bool
+/// Whether no line says that another phase is heard, if columns rise.
+fn is_heard_by_all(reign: KingPhase, notes: &[Note]) -> bool
     requires { ColumnsRise notes.now }
     ensures { result ≡ true → IsHeardByAll reign notes.now }
 {
@@ -160,8 +160,8 @@ fn is_heard_by_all(reign: Reign, notes: &[Note]) -> bool
     starts_at(reign.column, from, notes) && is_heard_from(reign, notes, from)
 }
 
-/// Whether a turn's frame is whole where all hear it, and else broken, where columns rise.
-fn is_framed(reign: Reign, notes: &[Note], is_common: bool) -> bool
+/// If columns rise: whether a phase's frame is whole if all hear it, and else broken.
+fn is_framed(reign: KingPhase, notes: &[Note], is_common: bool) -> bool
     requires { ColumnsRise notes.now }
     ensures { result ≡ true → IsFramed reign notes.now is_common }
 {
@@ -171,16 +171,18 @@ fn is_framed(reign: Reign, notes: &[Note], is_common: bool) -> bool
     }
 }
 
-/// Whether all turns are heard by some correct node, and have their frames, where columns rise.
-pub fn are_turns_said(notes: &[Note], reigns: &[Reign]) -> bool
+/// Whether a phase is heard by some correct node, and has its frame, if columns rise.
+fn is_turn_said(notes: &[Note], reign: KingPhase) -> bool
+    requires { ColumnsRise notes.now }
+    ensures { result ≡ true → IsTurnSaid notes.now reign }
+{
+    has_hearer(reign, notes, true) && is_framed(reign, notes, reign.is_common)
+}
+
+/// Whether all phases are, if columns rise.
+pub fn are_turns_said(notes: &[Note], reigns: &[KingPhase]) -> bool
     requires { ColumnsRise notes.now }
     ensures { result ≡ true → All (IsTurnSaid notes.now) reigns.now }
 {
-    for k in 0..reigns.len() {
-        let reign = reigns[k];
-        if !has_hearer(reign, notes, true) || !is_framed(reign, notes, reign.is_common) {
-            return false;
-        }
-    }
-    true
+    reigns.iter().all(|reign| is_turn_said(notes, *reign))
 }

@@ -1,5 +1,5 @@
--- The lines of a node in a configuration of a script's run. Where nothing is heard, what stands in
--- the places of what is heard does not show.
+-- The lines of a node in a configuration of a script's run. If nothing is heard, what stands in the
+-- places of what is heard does not show.
 use Rattle.std.proofs.Common.{◌≡◌, ℕ, ◌-◌, ◌*◌, ◌/◌, ◌%◌, Bool, true, false, cond, ltb, List, []}
 use Rattle.std.proofs.Common.{◌∷◌, ◌++◌, length, refl, ap, ◌∙◌}
 use Rattle.std.specs.Prelude.{nat_lt}
@@ -11,7 +11,7 @@ use Rattle.construction.specs.Votes.{block}
 use Rattle.adversary_script.specs.Scripts.{Script}
 use Rattle.adversary_script.specs.Eras.{faulty_at}
 use Rattle.round_runner.specs.Played.{heard_at}
-use Rattle.trace_words.specs.declared.headings.Heading.{Heading}
+use Rattle.traces.specs.declared.headings.Heading.{Heading}
 use Rattle.traces.specs.LevelTexts.{level_line, level_lines}
 use Rattle.traces.specs.NodeTexts.{state_line, view_text, node_text}
 

@@ -13,7 +13,7 @@ use Rattle.plan_numbers.specs.Sizes.{block_nodes}
 use Rattle.plan_numbers.specs.Stacked.{AreLevels}
 use Rattle.plan_numbers.proofs.Stacking.{length-levels_in}
 use Rattle.tower.proofs.Descent.{levels_are, size_is, group_nodes, top_sized}
-use Rattle.trace_words.specs.declared.headings.Heading.{Heading}
+use Rattle.traces.specs.declared.headings.Heading.{Heading}
 use Rattle.traces.specs.LevelTexts.{level_line, level_lines}
 
 -- no level has no line

@@ -1,3 +1,11 @@
+pub mod Around
+pub mod Counts
+pub mod GroupDescent
+pub mod PulseHearing
+pub mod PulseTraced
+pub mod GroupRegisters
+pub mod Reading
+pub mod WordsSoFar
 pub mod Hearing
 pub mod LevelDescent
 pub mod Traced

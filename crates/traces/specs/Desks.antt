@@ -1,4 +1,4 @@
--- What a trace needs beside its runner.
+-- What a trace needs besides its runner.
 use Rattle.std.specs.Prelude.{◌≡◌, ℕ, ◌≤◌, List, length, All}
 use Rattle.sync_types.specs.States.{State}
 use Rattle.construction.specs.Plans.{Plan, plan_nodes}
@@ -7,7 +7,7 @@ use Rattle.plan_numbers.specs.Stacked.{AreSomeLevels}
 use Rattle.counter_core.specs.Working.{IsFor}
 use Rattle.counter_core.specs.declared.overlays.NoOverlay.{NoOverlay}
 use Rattle.round_runner.specs.Runners.{Running}
-use Rattle.traces.specs.declared.desks.Desk.{Desk}
+use Rattle.traces.specs.declared.desks.TraceBuffers.{TraceBuffers}
 
 -- so many states, of one depth
 pub record HasRoom (nodes depth : ℕ) (states : List State) : Type 0 where
@@ -15,7 +15,7 @@ pub record HasRoom (nodes depth : ℕ) (states : List State) : Type 0 where
   pub deep : All (λ s. length s.registers ≡ depth) states
 
 -- it was made for a plan, and for states of a depth
-pub record IsMade (plan : Plan) (depth : ℕ) (desk : Desk) : Type 0 where
+pub record IsMade (plan : Plan) (depth : ℕ) (desk : TraceBuffers) : Type 0 where
   pub levels : levels_in desk.levels.items ≡ plan.levels
   pub are : AreSomeLevels desk.levels.items
   pub shallow : length desk.levels.items ≤ 5
@@ -26,5 +26,5 @@ pub record IsMade (plan : Plan) (depth : ℕ) (desk : Desk) : Type 0 where
   pub work : IsFor (plan_nodes plan) desk.work
 
 -- the desk is one for the states of a runner
-abbrev pub IsFitFor : Running NoOverlay → Desk → Type 0
+abbrev pub IsFitFor : Running NoOverlay → TraceBuffers → Type 0
 IsFitFor r desk = IsMade r.plan r.script.shape.depth desk

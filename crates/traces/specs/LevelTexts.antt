@@ -11,10 +11,10 @@ use Rattle.construction.specs.Plans.{Level, group_size, nodes_of}
 use Rattle.construction.specs.Shown.{shown}
 use Rattle.construction.specs.Steps.{state_of}
 use Rattle.construction.specs.Votes.{block, vote, lead, beat_heard}
-use Rattle.trace_words.specs.declared.headings.Heading.{Heading}
-use Rattle.trace_words.specs.Words.{number_or_none, faulty_word, turn_word, all_have, mark_word}
+use Rattle.traces.specs.declared.headings.Heading.{Heading}
+use Rattle.traces.specs.Words.{number_or_none, faulty_word, turn_word, all_have, mark_word}
 
--- ---- what the node hears of a group, where the blocks have n nodes and stand above l levels
+-- ---- what the node hears of a group, whose blocks have n nodes and stand above l levels
 
 -- the vote of a block
 abbrev pub vote_word : (n : ℕ) → Level → (outputs : List ℕ) → (i : ℕ) → List ℕ
@@ -25,7 +25,7 @@ abbrev pub votes_part : (n : ℕ) → Level → (outputs : List ℕ) → List �
 votes_part n level outputs =
     codes " votes" ++ flat_map (vote_word n level outputs) (range_with_len 0 level.blocks)
 
--- whose position is heard, and whose turn that is; the group begins with node `first`
+-- whose position is heard, and whose phase that is; the group begins with node `first`
 abbrev pub turn_part : (n : ℕ) → Level → (first : ℕ) → (outputs : List ℕ) → List ℕ
 turn_part n level first outputs =
     let position = beat_heard level n outputs in
@@ -33,7 +33,7 @@ turn_part n level first outputs =
     ∷ codes " position " ∷ decimal position ∷ turn_word (position % 3)
     ∷ codes " king " ∷ decimal (first + position / 3) ∷ [])
 
--- at how many places the own value is heard, and the least finite one at more than f places
+-- at how many places the node's own value is heard, and the least finite one at more than f places
 abbrev pub counts_part : (f : ℕ) → (own : Option ℕ) → (values : List (Option ℕ)) → List ℕ
 counts_part f own values =
     concat (codes " same " ∷ decimal (count_of values own)
@@ -53,7 +53,7 @@ heard_if false l n level first own group = []
 
 -- ---- the lines of the levels
 
--- the front of a level's line, up to the node's own register there, which this is
+-- the beginning of a level's line, up to the node's own register there, which this is
 abbrev pub level_front : Heading → (faulty : List ℕ) → List State → (l first many : ℕ) → Reg
     → List ℕ
 level_front h faulty config l first many own =
@@ -61,8 +61,7 @@ level_front h faulty config l first many own =
     ∷ codes " level " ∷ decimal (l + 1) ∷ codes " value " ∷ number_or_none own.a
     ∷ mark_word own.d (all_have l first many faulty config own.a) ∷ [])
 
--- Of a heading, with the faulty nodes and the configuration. Where no round follows nothing is
--- heard.
+-- Of a heading, with the faulty nodes and the configuration. If no round follows, nothing is heard.
 module _ (h : Heading) (faulty : List ℕ) (config : List State) (hears : Bool) where
   -- the line of a level above l levels whose group begins with node `first`
   abbrev pub level_line : (l n : ℕ) → Level → (first : ℕ) → (group : List State) → List ℕ

@@ -1,3 +1,12 @@
+pub mod Around
+pub mod Counted
+pub mod PulseDesks
+pub mod GroupTexts
+pub mod Groups
+pub mod PulseNodeTexts
+pub mod PulseTraceTexts
+pub mod Headings
+pub mod Words
 pub mod Desks
 pub mod LevelTexts
 pub mod NodeTexts

@@ -8,9 +8,9 @@ use Rattle.construction.specs.Steps.{state_of}
 use Rattle.adversary_script.specs.Scripts.{Script}
 use Rattle.adversary_script.specs.Eras.{faulty_at}
 use Rattle.round_runner.specs.Played.{heard_at}
-use Rattle.trace_words.specs.declared.headings.Heading.{Heading}
-use Rattle.trace_words.specs.Headings.{heading_of}
-use Rattle.trace_words.specs.Words.{shown_line}
+use Rattle.traces.specs.declared.headings.Heading.{Heading}
+use Rattle.traces.specs.Headings.{heading_of}
+use Rattle.traces.specs.Words.{shown_line}
 use Rattle.traces.specs.LevelTexts.{level_lines}
 
 -- the number of a node; a spare has none
@@ -22,7 +22,7 @@ abbrev pub state_line : Heading → List Level → State → List ℕ
 state_line h levels state =
     shown_line h (number_of_node levels h.node state) (shown (length levels) state)
 
--- The line of its state, and those of its levels, from what it hears of all nodes, where a round
+-- The line of its state, and those of its levels, from what it hears of all nodes, if a round
 -- follows.
 abbrev pub view_text : Heading → (faulty : List ℕ) → (config : List State) → (hears : Bool)
     → List Level → (heard : List State) → List ℕ
@@ -30,7 +30,7 @@ view_text h faulty config hears levels heard =
     state_line h levels (state_of config h.node)
     ++ level_lines h faulty config hears levels h.node heard
 
--- The lines of node v in configuration t, with what it hears in round t; behind the last
+-- The lines of node v in configuration t, with what it hears in round t; after the last
 -- configuration no round follows.
 abbrev pub node_text : Plan → Script → (t : ℕ) → (config : List State) → (v : ℕ) → List ℕ
 node_text plan script t config v =

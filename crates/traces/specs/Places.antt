@@ -3,7 +3,7 @@ use Rattle.std.specs.Prelude.{◌≡◌, ℕ, ◌+◌, ◌<◌, ◌≤◌, List,
 use Rattle.sync_types.specs.States.{State}
 use Rattle.plan_numbers.specs.declared.numbers.LevelNums.{LevelNums}
 use Rattle.boost_step.specs.Numbers.{AreNumbers}
-use Rattle.trace_words.specs.declared.views.View.{View}
+use Rattle.traces.specs.declared.views.View.{View}
 
 pub record Placed : Type 0 where
   pub view : View

@@ -3,7 +3,7 @@ use Rattle.std.specs.Prelude.{ℕ, ◌+◌, ◌-◌, ◌<◌, ◌≤◌, List, l
 use Rattle.construction.specs.Plans.{nodes_of}
 use Rattle.plan_numbers.specs.declared.numbers.LevelNums.{LevelNums}
 use Rattle.plan_numbers.specs.Numbers.{levels_in}
-use Rattle.trace_words.specs.declared.views.View.{View}
+use Rattle.traces.specs.declared.views.View.{View}
 
 -- the node stands at that place of a group of these levels, the lowest of which stands first
 pub record StandsIn (view : View) (levels : List LevelNums) (place : ℕ) : Type 0 where

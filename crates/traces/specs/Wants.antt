@@ -4,7 +4,7 @@ use Rattle.counter_core.specs.declared.overlays.NoOverlay.{NoOverlay}
 use Rattle.counter_core.specs.NoLayers.{no_layer}
 use Rattle.adversary_script.specs.Scripts.{Script}
 use Rattle.round_runner.specs.Runners.{Running, IsPlaying}
-use Rattle.trace_words.specs.declared.wants.Want.{Want}
+use Rattle.traces.specs.declared.wants.Want.{Want}
 
 -- the wanted configurations are played
 pub record IsWithin (script : Script) (want : Want) : Type 0 where

@@ -8,9 +8,9 @@ use plan_numbers::{LevelNums, Plan};
 use std::alloc::Global;
 use sync_types::{NoMemory, NodeState};
 
-/// What a trace needs beside its runner, made once.
+/// What a trace needs besides its runner, made once.
 #[derive(Drop)]
-pub struct Desk {
+pub struct TraceBuffers {
     /// The numbers of the plan's levels, the lowest first.
     pub levels: Vec<LevelNums>,
     /// The states of all nodes.
@@ -40,20 +40,20 @@ fn states_of(alloc: Global, nodes: u32, depth: usize) -> Result<Vec<NodeState>, 
     Ok(states)
 }
 
-impl Desk {
+impl TraceBuffers {
     /// Room for traces of a plan's runs, whose states have so many registers. It takes all the
     /// memory that a trace needs.
-    pub fn new(alloc: Global, plan: &Plan, depth: usize) -> Result<Desk, NoMemory>
+    pub fn new(alloc: Global, plan: &Plan, depth: usize) -> Result<TraceBuffers, NoMemory>
         requires { plan_depth plan.now ≤ depth }
         ensures { IfOk result (IsMade plan.now depth) }
     {
-        plan.tell();
+        plan.facts();
         let levels = levels_of(alloc, plan)?;
         let nodes = plan.nodes();
         let config = states_of(alloc, nodes, depth)?;
         let heard = states_of(alloc, nodes, depth)?;
         let work = Work::new(alloc, nodes)?;
-        Ok(Desk {
+        Ok(TraceBuffers {
             levels,
             config,
             heard,

@@ -1,7 +1,7 @@
+use crate::View;
 use counter_core::Heard;
 use plan_numbers::LevelNums;
 use std::marker::Model;
-use trace_words::View;
 
 /// The group of a level in which a node takes part, with what the node hears of it.
 #[derive(Drop)]

@@ -3,19 +3,20 @@
 ghost use Rattle.std.specs.Prelude.{◌≡◌, ◌<◌, ◌≤◌, true, nat_lt, All, length};
 ghost use Rattle.construction.specs.Plans.{plan_nodes};
 ghost use Rattle.texts.specs.Growth.{Puts};
+ghost use Rattle.edge_io.specs.Writing.{Writes};
 ghost use Rattle.round_runner.specs.Played.{heard_at};
 ghost use Rattle.traces.specs.Desks.{HasRoom, IsFitFor};
 ghost use Rattle.traces.specs.NodeTexts.{node_text};
 ghost use Rattle.traces.specs.TraceTexts.{moment_text, trace_text};
 ghost use Rattle.traces.specs.Wants.{IsAt, IsToTrace, IsWithin};
 
-use crate::desks::Desk;
+use crate::desks::TraceBuffers;
 use crate::node_lines::put_node;
+use crate::{Heading, View, Want};
 use counter_core::NoOverlay;
-use edge_io::{Gathered, Sink, TextSink, WriteFault};
+use edge_io::{Sink, WriteFault, Writer};
 use round_runner::Runner;
 use sync_types::NodeState;
-use trace_words::{Heading, View, Want};
 
 /// Lays what node `v` hears into its places, and answers whether a round follows, in which it hears
 /// that.
@@ -38,17 +39,17 @@ fn hear(runner: &mut Runner<NoOverlay>, v: u32, heard: &mut [NodeState]) -> bool
 }
 
 /// Writes the lines of node `v` in the runner's configuration, which lies on the desk.
-fn put_node_lines<K: TextSink>(
-    sink: &mut K,
+fn put_node_lines<K: Sink>(
+    writer: &mut Writer<'_, K>,
     runner: &mut Runner<NoOverlay>,
     v: u32,
-    desk: &mut Desk,
-) -> Result<(), WriteFault>
+    desk: &mut TraceBuffers,
+)
     requires node { v < plan_nodes runner.old.plan }
     requires desk { IsFitFor runner.old desk.old }
     requires laid { desk.old.config.items ≡ runner.old.states }
-    ensures lines { Puts result (node_text runner.old.plan runner.old.script runner.old.at
-        runner.old.states v) (K.Sink.told sink.old) (K.Sink.told sink.new) }
+    ensures lines { Writes K.told (node_text runner.old.plan runner.old.script runner.old.at
+        runner.old.states v) writer.old writer.new }
     ensures same { runner.new ≡ runner.old }
     ensures desk { IsFitFor runner.old desk.new }
     ensures laid { desk.new.config.items ≡ desk.old.config.items }
@@ -66,31 +67,27 @@ fn put_node_lines<K: TextSink>(
         config: &desk.config,
         hears,
     };
-    put_node(sink, &desk.levels, &view, &desk.heard, &mut desk.work)
+    put_node(writer, &desk.levels, &view, &desk.heard, &mut desk.work);
 }
 
 /// Writes the lines of these nodes in the runner's configuration.
-fn put_moment<K: TextSink>(
-    sink: &mut K,
+fn put_moment<K: Sink>(
+    writer: &mut Writer<'_, K>,
     runner: &mut Runner<NoOverlay>,
     nodes: &[u32],
-    desk: &mut Desk,
-) -> Result<(), WriteFault>
+    desk: &mut TraceBuffers,
+)
     requires nodes { All (λ v. v < plan_nodes runner.old.plan) nodes.now }
     requires desk { IsFitFor runner.old desk.old }
-    ensures lines { Puts result (moment_text runner.old.plan runner.old.script nodes.now
-        runner.old.at runner.old.states) (K.Sink.told sink.old) (K.Sink.told sink.new) }
+    ensures lines { Writes K.told (moment_text runner.old.plan runner.old.script nodes.now
+        runner.old.at runner.old.states) writer.old writer.new }
     ensures same { runner.new ≡ runner.old }
     ensures desk { IsFitFor runner.old desk.new }
 {
     runner.lay_states(&mut desk.config);
     for i in 0..nodes.len() {
-        match put_node_lines(sink, runner, nodes[i], desk) {
-            Ok(()) => {}
-            Err(WriteFault) => return Err(WriteFault),
-        }
+        put_node_lines(writer, runner, nodes[i], desk);
     }
-    Ok(())
 }
 
 /// Plays so many rounds.
@@ -105,40 +102,40 @@ fn play(runner: &mut Runner<NoOverlay>, rounds: u64)
 }
 
 /// Writes the lines of these nodes in the wanted configurations.
-fn put_moments<K: TextSink>(
-    sink: &mut K,
+fn put_moments<K: Sink>(
+    writer: &mut Writer<'_, K>,
     runner: &mut Runner<NoOverlay>,
     want: Want,
     nodes: &[u32],
-    desk: &mut Desk,
-) -> Result<(), WriteFault>
+    desk: &mut TraceBuffers,
+)
     requires start { IsToTrace runner.old }
     requires within { IsWithin runner.old.script want }
     requires nodes { All (λ v. v < plan_nodes runner.old.plan) nodes.now }
     requires desk { IsFitFor runner.old desk.old }
-    ensures { Puts result (trace_text runner.old.plan runner.old.script nodes.now want.first
-        want.last) (K.Sink.told sink.old) (K.Sink.told sink.new) }
+    ensures { Writes K.told (trace_text runner.old.plan runner.old.script nodes.now want.first
+        want.last) writer.old writer.new }
 {
     play(runner, want.first);
     for _ in want.first..want.last {
-        match put_moment(sink, runner, nodes, desk) {
-            Ok(()) => {}
-            Err(WriteFault) => return Err(WriteFault),
+        put_moment(writer, runner, nodes, desk);
+        if writer.has_failed() {
+            return;
         }
         runner.round();
     }
-    put_moment(sink, runner, nodes, desk)
+    put_moment(writer, runner, nodes, desk);
 }
 
 /// Plays a script up to the last wanted configuration, and writes the lines of these nodes in the
-/// wanted ones. It takes no memory. The runner is at configuration 0, and the desk was made for
-/// its plan. `WriteFault` comes where the sink counted one; a front of the text was then taken.
+/// wanted ones. It takes no memory. The runner is at configuration 0, and the desk was made for its
+/// plan. `WriteFault` comes if the sink counted one; a prefix of the text was then taken.
 pub fn put_trace<K: Sink>(
     sink: &mut K,
     runner: &mut Runner<NoOverlay>,
     want: Want,
     nodes: &[u32],
-    desk: &mut Desk,
+    desk: &mut TraceBuffers,
 ) -> Result<(), WriteFault>
     requires start { IsToTrace runner.old }
     requires within { IsWithin runner.old.script want }
@@ -147,7 +144,7 @@ pub fn put_trace<K: Sink>(
     ensures { Puts result (trace_text runner.old.plan runner.old.script nodes.now want.first
         want.last) (K.told sink.old) (K.told sink.new) }
 {
-    let mut gathered = Gathered::new(sink);
-    let written = put_moments(&mut gathered, runner, want, nodes, desk);
-    gathered.finish(written)
+    let mut writer = Writer::new(sink);
+    put_moments(&mut writer, runner, want, nodes, desk);
+    writer.finish()
 }

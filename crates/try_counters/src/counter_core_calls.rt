@@ -1,6 +1,6 @@
 ghost use Rattle.std.specs.Prelude.{◌≡◌, ◌+◌, ◌<◌, ◌≤◌, ◌++◌, length, slice_set, All};
 ghost use Rattle.construction.specs.Steps.{state_of};
-ghost use Rattle.counter_core.specs.Overlays.{StandsOver, HasValues, after};
+ghost use Rattle.counter_core.specs.Overlays.{LayerFits, HasValues, after};
 ghost use Rattle.counter_core.specs.Working.{IsFor, IsAsRoomy};
 ghost use Rattle.try_counters.specs.Hearing.{AreHeard};
 ghost use Rattle.try_counters.specs.Repeats.{repeat_layer, repeat_layer_keeps};
@@ -37,7 +37,7 @@ impl Overlay for Repeat {
 
     fn begin(&mut self, _at: u64) {}
 
-    fn heeded(
+    fn relevant_liars(
         &self,
         _node: u32,
         _output: u64,
@@ -79,7 +79,7 @@ fn step_with<C: Counter, O: Overlay>(
     work: &mut Work,
     out: &mut NodeState,
 )
-    requires over { StandsOver (O.layer layer.old) (C.meaning counter.now) }
+    requires over { LayerFits (O.layer layer.old) (C.meaning counter.now) }
     requires node { node < (C.meaning counter.now).nodes }
     requires heard { AreHeard (C.meaning counter.now) (C.in_range counter.now)
         (O.layer layer.old) heard.now }

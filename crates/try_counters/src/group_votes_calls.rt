@@ -86,8 +86,8 @@ fn with_a_liar<'a>(outputs: &'a [u64], registers: &'a [Reg]) -> Senders<'a>
     Senders::new(0, outputs, registers, &LIARS, &BEFORE)
 }
 
-/// The register that all nodes get where one is known, whether a node is open, and its new
-/// register: of four nodes that show a number, the first of which lies, by what it tells.
+/// The register that all nodes get if one is known, whether a node is open, and its new register:
+/// of four nodes that show a number, the first of which lies, by what it says.
 fn heard<G: Ledger>(
     alloc: Global,
     blank: Blank,
@@ -113,7 +113,7 @@ fn heard<G: Ledger>(
     Ok((group.common_register(), open, register))
 }
 
-/// The same, where the liar tells a number and a value.
+/// The same, if the liar says a number and a value.
 fn told_one(
     alloc: Global,
     x: u64,
@@ -166,7 +166,7 @@ const PARTLY: [Value; 4] = [
 ];
 
 /// The number that all nodes show, their values and marks, the number and the value that node 0
-/// tells, a node that hears it, whether its new register may hang on that, and this.
+/// says, a node that hears it, whether its new register may depend on that, and this.
 type Row = (u64, [Value; 4], u64, Option<u64>, usize, bool, Value);
 
 const ROWS: [Row; 22] = [
@@ -188,7 +188,7 @@ const ROWS: [Row; 22] = [
     (767, PARTLY, 0, Some(5), 1, false, (Some(2), true)),
     (767, SPLIT, 0, Some(4), 0, false, (Some(5), true)),
     (770, SPLIT, 0, Some(5), 3, false, (Some(2), true)),
-    // all point to the liar: it tells the beat
+    // all point to the liar: it says the beat
     (0, SPLIT, 0, Some(5), 1, true, INFINITE),
     (0, SPLIT, 1, Some(1), 1, true, (Some(2), true)),
     (0, SPLIT, 2, Some(5), 1, true, (Some(6), true)),
@@ -214,7 +214,7 @@ fn a_liar_decides_what_is_open(rt: HostRuntime) -> Result<(), Fail> {
     Ok(())
 }
 
-/// Where the liar's register is locked too, all is known.
+/// If the liar's register is locked too, all is known.
 #[test]
 fn a_settled_group_has_one_register(rt: HostRuntime) -> Result<(), Fail> {
     let (common, is_open, found) = told_one(rt.alloc(), 7, [(Some(3), true); 4], 5, Some(5), 2)?;

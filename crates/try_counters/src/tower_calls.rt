@@ -5,6 +5,7 @@ ghost use Rattle.plan_numbers.specs.Numbers.{line};
 ghost use Rattle.plan_laws.specs.PlanMeaning.{IsWithin, IsInRange};
 ghost use Rattle.tower.specs.Told.{AreTold};
 
+use crate::plans;
 use counter_core::{Counter, Heard};
 use majority_votes::Steps;
 use plan_numbers::{Plan, PremiseError};
@@ -15,7 +16,6 @@ use std::sync::ledger::{Blank, Ledger};
 use std::test::Fail;
 use sync_types::{FaultSet, NoMemory, NodeState, Reg};
 use tower::{Tower, build};
-use try_states::plans;
 
 /// Four nodes, one of which may be faulty, that count by ten.
 fn four(alloc: Global) -> Result<Tower, PremiseError>
@@ -153,7 +153,7 @@ const ROWS: [Row; 7] = [
         false,
     ),
     (0, [Some(0), Some(0), Some(5), Some(5)], 1, 1, None, false),
-    // a node of a block that lies: it tells the spare something else than node 0
+    // a node of a block that lies: it says something else to the spare than to node 0
     (
         0,
         [Some(0), Some(5), Some(0), Some(0)],
@@ -240,13 +240,13 @@ fn zero_states(alloc: Global, plan: &Plan) -> Result<Packed, NoMemory>
     ensures deep { IfOk result (λ config. config.shape.depth ≡ plan_depth plan.now) }
     ensures range { IfOk result (λ config. All (IsInRange plan.now) config.current) }
 {
-    plan.tell();
+    plan.facts();
     let shape = StateShape::of(alloc, plan)?;
     let config = Packed::new(alloc, shape, plan.nodes())?;
     Ok(config)
 }
 
-/// What a liar tells: a state that has this value at the lower level, and else zeros.
+/// What a liar says: a state that has this value at the lower level, and else zeros.
 fn lie(alloc: Global, value: u64) -> Result<NodeState, NoMemory>
     ensures range { IfOk result (λ s. IsWithin 384 (line 3 1 10 0 ∷ (line 3 0 576 0 ∷ [])) s) }
     ensures depth { IfOk result (λ s. length s.registers ≡ 2) }
@@ -312,14 +312,14 @@ fn shared_step<G: Ledger>(
     let mut steps = Steps::<G>::new(blank);
     let mut shared = tower.shared(alloc)?;
     tower.gather(config, shown.liars, &mut shared, &mut steps);
-    let (from, to) = tower.heeded(node, &shared);
+    let (from, to) = tower.relevant_liars(node, &shared);
     let mut out = NodeState::zero(alloc, tower.depth())?;
     out.set_x(5);
-    tower.advance_shared(node, config, lies, &mut shared, &mut out, &mut steps);
+    tower.advance_shared(node, lies, &mut shared, &mut out, &mut steps);
     Ok((out, from, to))
 }
 
-/// In each row: what node 1 tells at the lower level, another node with its new register there, and
+/// In each row: what node 1 says at the lower level, another node with its new register there, and
 /// the liars that it heeds.
 #[test]
 fn both_steps_are_one(rt: HostRuntime) -> Result<(), Fail> {
@@ -328,7 +328,7 @@ fn both_steps_are_one(rt: HostRuntime) -> Result<(), Fail> {
     let config = zero_states(rt.alloc(), &plan)?;
     let mut liars = FaultSet::new(rt.alloc(), 9)?;
     liars.push(1);
-    for (value, node, first, heeded) in [
+    for (value, node, first, relevant_liars) in [
         (0, 0, Some(1), (0, 1)),
         (5, 0, None, (0, 1)),
         (5, 3, Some(1), (0, 0)),
@@ -344,7 +344,7 @@ fn both_steps_are_one(rt: HostRuntime) -> Result<(), Fail> {
         };
         let (out, from, to) = shared_step::<Brand>(rt.alloc(), Blank::new(1), &shown, &lies)?;
         assert!(rt; has_both(&out, 1, plain(first), plain(Some(1))));
-        assert!(rt; (from, to) == heeded);
+        assert!(rt; (from, to) == relevant_liars);
     }
     Ok(())
 }

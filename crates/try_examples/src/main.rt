@@ -1,5 +1,5 @@
 //! Tries the examples: what the workbench answers to each is compared with what is written beside
-//! it. It fails where one differs, or has no answer beside it.
+//! it. It fails if one differs, or has no answer beside it.
 #![tactic(auto)]
 
 use edge_io::{MemSink, PlainSource};

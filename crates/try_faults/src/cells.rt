@@ -2,8 +2,8 @@
 
 use edge_io::{Lines, Words, number};
 
-/// How many bytes a cell has that stands at the front of these, with the two of its length. None
-/// where it is cut.
+/// How many bytes a cell has that stands at the beginning of these, with the two of its length.
+/// None if it is cut.
 fn cell_length(bytes: &[u8]) -> Option<usize> {
     let high = usize::from(*bytes.get(0)?);
     let low = usize::from(*bytes.get(1)?);
@@ -15,8 +15,8 @@ fn cell_length(bytes: &[u8]) -> Option<usize> {
     }
 }
 
-/// How many bytes stand through the second line `end`, which ends the header. None where it is
-/// not there.
+/// How many bytes stand through the second line `end`, which ends the header. None if it is not
+/// there.
 fn header_length(input: &[u8]) -> Option<usize> {
     let mut through = 0usize;
     let mut ends = 0u8;
@@ -41,8 +41,8 @@ fn number_of(word: Option<&[u8]>) -> Option<u64> {
     number(word?)
 }
 
-/// How many nodes there are behind a line, where there were so many: `level K F C` has K groups of
-/// them, and `level K F C spare S` S nodes more.
+/// How many nodes there are after a line, if there were so many before it: `level K F C` has K
+/// groups of them, and `level K F C spare S` S nodes more.
 fn nodes_behind(line: &[u8], nodes: u64) -> u64 {
     let mut words = Words::new(line);
     if words.next() != Some(b"level".as_slice()) {
@@ -62,7 +62,7 @@ fn nodes_of(header: &[u8]) -> u64 {
     nodes
 }
 
-/// How many whole packets, each of a cell of every node, stand at the front of these bytes.
+/// How many whole packets, each of a cell of every node, stand at the beginning of these bytes.
 fn whole_packets(bytes: &[u8], nodes: u64) -> usize {
     let mut rest = bytes;
     let mut cells = 0u64;

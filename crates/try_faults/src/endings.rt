@@ -1,4 +1,4 @@
-//! What the workbench does where a call of its source or its sink fails.
+//! What the workbench does if a call of its source or its sink fails.
 
 use crate::rows::Row;
 use crate::watched::Watched;
@@ -15,18 +15,18 @@ pub enum Fault {
     Nothing,
     Read(usize),
     Write(usize),
-    /// Each write behind so many bytes.
+    /// Each write after so many bytes.
     Full(usize),
 }
 
-/// What came of a row: the exit code, and the source and the sink behind the last call.
+/// What came of a row: the exit code, and the source and the sink after the last call.
 pub struct Outcome {
     pub code: u8,
     pub source: Watched<MemSource>,
     pub sink: Watched<MemSink>,
 }
 
-// Written out, so that what lets go of one calls this, and no more.
+// Written out, so that code that drops one has a single call.
 impl Drop for Outcome {
     fn drop(self) {
         let Outcome {

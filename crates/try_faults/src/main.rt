@@ -1,6 +1,6 @@
-//! Tries what the workbench does where a read or a write fails: for each row of the folders that it
-//! is given, and for pieces of several sizes, each call in turn. With the arguments `spend N WORDS`
-//! it gives the words and its standard input to the workbench once, behind N allocations.
+//! Tries what the workbench does if a read or a write fails: for each row of the folders that it is
+//! given, and for pieces of several sizes, each call in turn. With the arguments `spend N WORDS` it
+//! gives the words and its standard input to the workbench once, after N allocations.
 #![tactic(auto)]
 
 mod cells;
@@ -60,7 +60,7 @@ fn try_all(rt: &HostRuntime, arguments: &[String]) -> anyhow::Result<bool> {
     try_folders(rt, arguments)
 }
 
-/// The arguments behind the program's own name.
+/// The arguments after the program's own name.
 fn arguments(rt: &HostRuntime) -> io::Result<Vec<String>> {
     let mut arguments = Vec::new(rt.alloc());
     for argument in env::args(rt)?.skip(1) {

@@ -17,7 +17,7 @@ fn spend(alloc: Global, count: u64) {
     }
 }
 
-/// Gives words and what stands in standard input to the workbench, behind so many allocations, and
+/// Gives words and what stands in standard input to the workbench, after so many allocations, and
 /// prints the exit code and how many bytes were taken.
 pub fn try_words(rt: &HostRuntime, words: &[String], spent: u64) -> anyhow::Result<()> {
     let input = read_all(rt.alloc(), &mut StdSource::new(rt.stdin()), LONGEST_INPUT)?;

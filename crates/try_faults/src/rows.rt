@@ -12,7 +12,7 @@ pub struct Row {
     pub answer: Vec<u8>,
 }
 
-// Written out, so that what lets go of one calls this, and no more.
+// Written out, so that code that drops one has a single call.
 impl Drop for Row {
     fn drop(self) {
         let Row {

@@ -5,10 +5,10 @@ use crate::endings::{Fault, Outcome, came_of};
 use crate::rows::Row;
 use std::alloc::{AllocError, Global};
 
-/// The exit code where a read failed.
+/// The exit code if a read failed.
 const READ_FAILED: u8 = 6;
 
-/// The exit code where a write failed.
+/// The exit code if a write failed.
 const WRITE_FAILED: u8 = 7;
 
 /// What is to come of a case: the exit code, and how many bytes of the row's answer are taken.
@@ -18,8 +18,8 @@ struct Wanted {
     front: usize,
 }
 
-/// What is to come of a row where a read fails behind so many bytes of its input: nothing is taken,
-/// but for the cells that `node` has written.
+/// What is to come of a row if a read fails after so many bytes of its input: nothing is taken, but
+/// for the cells that `node` has written.
 fn after_read(row: &Row, before: usize) -> Wanted {
     let front = if row.has_word("node") {
         written(&row.input, &row.answer, before)
@@ -32,7 +32,7 @@ fn after_read(row: &Row, before: usize) -> Wanted {
     }
 }
 
-/// What is to come of a row where a write fails behind so many bytes of its answer.
+/// What is to come of a row if a write fails after so many bytes of its answer.
 fn after_write(before: usize) -> Wanted {
     Wanted {
         code: WRITE_FAILED,
@@ -40,7 +40,7 @@ fn after_write(before: usize) -> Wanted {
     }
 }
 
-/// What is to come of a row, by what comes of it in pieces of the same size where nothing fails. A
+/// What is to come of a row, by what comes of it in pieces of the same size if nothing fails. A
 /// call that is not reached then changes nothing.
 fn wanted_of(row: &Row, plain: &Outcome, fault: Fault) -> Wanted {
     let length = row.answer.len();
@@ -65,7 +65,7 @@ fn wanted_of(row: &Row, plain: &Outcome, fault: Fault) -> Wanted {
     })
 }
 
-/// Bytes as hex digits, each behind a space.
+/// Bytes as hex digits, each after a space.
 pub fn digits(alloc: Global, bytes: &[u8]) -> Result<String, AllocError> {
     let mut text = String::new(alloc);
     for byte in bytes {
@@ -112,7 +112,7 @@ struct Cases {
 }
 
 impl Cases {
-    /// Tries a case, and prints it where something else comes of it than what should.
+    /// Tries a case, and prints it if something else comes of it than what should.
     fn try_case(
         &mut self,
         rt: &HostRuntime,
@@ -134,7 +134,7 @@ impl Cases {
     }
 
     /// Tries each fault of a row whose bytes are moved in pieces of such a size, by what comes of
-    /// it where nothing fails.
+    /// it if nothing fails.
     fn try_faults(
         &mut self,
         rt: &HostRuntime,

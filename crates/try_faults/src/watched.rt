@@ -16,7 +16,7 @@ pub struct Calls {
     pub noted: Result<(), AllocError>,
 }
 
-// Written out, so that what lets go of one calls this, and no more.
+// Written out, so that code that drops one has a single call.
 impl Drop for Calls {
     fn drop(self) {
         let Calls {

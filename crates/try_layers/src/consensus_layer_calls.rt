@@ -6,7 +6,7 @@ use plan_numbers::Plan;
 use std::alloc::Global;
 use std::test::Fail;
 use sync_types::Rule;
-use try_states::plans::four;
+use try_counters::plans::four;
 
 /// A text, how many bytes and lines its part has, and how many values an input has.
 type ReadInputs = (&'static str, usize, u64, u64);
@@ -113,7 +113,7 @@ const TEXTS: [(AgreeError, &str); 2] = [
             line: 6,
             rule: Rule::Slot,
         }),
-        "line 6 of the inputs fails the rule Slot",
+        "line 6 fails the rule Slot",
     ),
     (AgreeError::NoMemory, "out of memory"),
 ];

@@ -3,7 +3,7 @@ use plan_numbers::Plan;
 use std::alloc::{AllocError, Global};
 use std::test::Fail;
 use sync_types::Rule;
-use try_states::plans::four;
+use try_counters::plans::four;
 
 /// A text, and how many bytes and lines its part has.
 const READ: [(&str, usize, u64); 4] = [
@@ -120,7 +120,7 @@ const TEXTS: [(FireError, &str); 2] = [
             line: 6,
             rule: Rule::Node,
         }),
-        "line 6 of the requests fails the rule Node",
+        "line 6 fails the rule Node",
     ),
     (FireError::NoMemory, "out of memory"),
 ];

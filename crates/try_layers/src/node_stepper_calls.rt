@@ -9,7 +9,7 @@ use state_codec::StateShape;
 use std::alloc::{AllocError, Global};
 use std::test::Fail;
 use sync_types::{NoMemory, NodeState};
-use try_states::plans::{four, one, three_and_one};
+use try_counters::plans::{four, one, three_and_one};
 
 /// A node in the state of these bytes.
 pub fn engine(

@@ -3,7 +3,7 @@ use replicated_log::{LogError, LogRefusal, owner_at, read_log};
 use std::alloc::Global;
 use std::test::Fail;
 use sync_types::Rule;
-use try_states::plans::four;
+use try_counters::plans::four;
 
 /// A text, how many bytes and lines its part has, and how many values a command has.
 type ReadLog = (&'static str, usize, u64, u64);
@@ -149,7 +149,7 @@ const TEXTS: [(LogError, &str); 2] = [
             line: 6,
             rule: Rule::Limit,
         }),
-        "line 6 of the log fails the rule Limit",
+        "line 6 fails the rule Limit",
     ),
     (LogError::NoMemory, "out of memory"),
 ];

@@ -3,7 +3,7 @@ use slot_table::{SlotError, SlotRefusal, read_slots};
 use std::alloc::Global;
 use std::test::Fail;
 use sync_types::Rule;
-use try_states::plans::one;
+use try_counters::plans::one;
 
 /// A text, how many bytes and lines its part has, and who holds at the outputs 2 and 4.
 type ReadTable = (&'static str, usize, u64, Option<u32>, Option<u32>);
@@ -80,7 +80,7 @@ const TEXTS: [(SlotError, &str); 2] = [
             line: 6,
             rule: Rule::Overlap,
         }),
-        "line 6 of the slots fails the rule Overlap",
+        "line 6 fails the rule Overlap",
     ),
     (SlotError::NoMemory, "out of memory"),
 ];

@@ -1,6 +1,6 @@
 //! Small changes of an input.
 
-/// Where the line of an input begins that is behind so many others.
+/// Where the line of an input begins that is after so many others.
 pub fn start_of(input: &[u8], lines: usize) -> usize {
     let mut left = lines;
     for (place, byte) in input.iter().enumerate() {
@@ -14,7 +14,7 @@ pub fn start_of(input: &[u8], lines: usize) -> usize {
     input.len()
 }
 
-/// The place behind the digits that begin at a place.
+/// The place after the digits that begin at a place.
 pub fn end_of_digits(input: &[u8], first: usize) -> usize {
     let mut end = first;
     for byte in input.get(first..).unwrap_or(&[]) {

@@ -20,7 +20,7 @@ pub struct Counts {
     refused: Vec<Refused>,
 }
 
-// Written out, so that what lets go of one calls this, and no more.
+// Written out, so that code that drops one has a single call.
 impl Drop for Counts {
     fn drop(self) {
         let Counts {

@@ -25,7 +25,7 @@ fn workbench_answer(
     Ok(counterlab(alloc, &words, &mut source, sink).code())
 }
 
-/// Prints bytes: as text where they are one, else in hex digits.
+/// Prints bytes: as text if they are one, else in hex digits.
 fn print_bytes(rt: &HostRuntime, bytes: &[u8]) -> anyhow::Result<()> {
     match str::from_utf8(bytes) {
         Ok(text) => println!(rt; "{text}")?,
@@ -46,7 +46,7 @@ pub struct Trials<'a> {
     counts: Counts,
 }
 
-// Written out, so that what lets go of one calls this, and no more.
+// Written out, so that code that drops one has a single call.
 impl<'a> Drop for Trials<'a> {
     fn drop(self) {
         let Trials {
@@ -91,7 +91,7 @@ impl<'a> Trials<'a> {
         print_bytes(rt, &wanted.bytes)
     }
 
-    /// Tries an input, and prints all of it where the answers to it differ.
+    /// Tries an input, and prints all of it if the answers to it differ.
     fn try_input(&mut self, input: &[u8]) -> anyhow::Result<()> {
         let alloc = self.rt.alloc();
         let wanted = answered(alloc, self.word, input)?;
@@ -105,8 +105,8 @@ impl<'a> Trials<'a> {
         Ok(())
     }
 
-    /// Tries an input in which some bytes, from one place to before another, are others, and some
-    /// more behind these.
+    /// Tries an input with some bytes, from one place to before another, replaced by others and
+    /// then more.
     fn try_replaced(
         &mut self,
         input: &[u8],
@@ -144,7 +144,7 @@ impl<'a> Trials<'a> {
     }
 
     /// Tries an input with a number, which stands from one place to before another, raised by one,
-    /// and lowered by one where it is not 0.
+    /// and lowered by one if it is not 0.
     fn try_number(&mut self, input: &[u8], first: usize, end: usize) -> anyhow::Result<()> {
         let number = number_of(input.get(first..end).unwrap_or(&[]));
         for other in [number.wrapping_add(1), number.saturating_sub(1)] {

@@ -1,5 +1,5 @@
 //! Tries the pictures: each stored picture or page is compared with what is drawn of the text that
-//! stands beside it. It fails where one differs.
+//! stands beside it. It fails if one differs.
 #![tactic(auto)]
 
 use edge_io::MemSink;

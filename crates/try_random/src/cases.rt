@@ -4,7 +4,7 @@ use reference::plans::Plan;
 use reference::refusals::Refusal;
 use std::alloc::{AllocError, Global};
 
-/// The refusal of a line behind so many others of a part, which stands behind a plan.
+/// The refusal of a line after so many others of a part, which stands after a plan.
 pub fn refusal_of(plan: &Plan, part: &'static str, place: u64, rule: &'static str) -> Refusal {
     let first = (plan.levels.len() as u64).wrapping_add(4);
     Refusal {
@@ -15,7 +15,7 @@ pub fn refusal_of(plan: &Plan, part: &'static str, place: u64, rule: &'static st
 }
 
 /// How a part is refused that may break a rule on some line, or else the script, which is not there
-/// behind so many lines.
+/// after so many lines.
 pub fn refusal_or_script(
     plan: &Plan,
     part: &'static str,
@@ -36,7 +36,7 @@ pub struct Case {
     pub code: u8,
 }
 
-// Written out, so that what lets go of one calls this, and no more.
+// Written out, so that code that drops one has a single call.
 impl Drop for Case {
     fn drop(self) {
         let Case {

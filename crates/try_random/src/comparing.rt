@@ -16,7 +16,7 @@ fn answer(alloc: Global, case: &Case) -> anyhow::Result<(u8, bool)> {
     Ok((status.code(), sink.taken() == case.wanted.as_slice()))
 }
 
-/// Prints bytes: as text where they are one, else in hex digits.
+/// Prints bytes: as text if they are one, else in hex digits.
 fn print_bytes(rt: &HostRuntime, bytes: &[u8]) -> anyhow::Result<()> {
     match str::from_utf8(bytes) {
         Ok(text) => println!(rt; "{text}")?,
@@ -40,7 +40,7 @@ fn print_case(rt: &HostRuntime, case: &Case, code: u8) -> anyhow::Result<()> {
     print_bytes(rt, &case.wanted)
 }
 
-/// Whether the workbench answers a case as it should. Where it does not, the case is printed.
+/// Whether the workbench answers a case as it should. If it does not, the case is printed.
 pub fn is_answered(rt: &HostRuntime, case: &Case) -> anyhow::Result<bool> {
     let (code, are_wanted) = answer(rt.alloc(), case)?;
     let same = are_wanted && code == case.code;

@@ -15,7 +15,7 @@ impl Draws {
         }
     }
 
-    /// A script of a version for a plan, some of whose eras go on for some slots behind the bound,
+    /// A script of a version for a plan, some of whose eras go on for some slots after the bound,
     /// the last one among them.
     pub fn long_script(&mut self, plan: &Plan, version: u64) -> Script {
         let mut script = self.script(plan, version);
@@ -29,7 +29,7 @@ impl Draws {
         script
     }
 
-    /// How long an era is that goes on for some slots behind the bound.
+    /// How long an era is that goes on for some slots after the bound.
     fn long_era(&mut self, plan: &Plan) -> u64 {
         let slots = plan.slot().wrapping_add(1).wrapping_mul(4);
         plan.bound().wrapping_add(self.between(1, slots))

@@ -6,7 +6,7 @@ use reference::scripts::{Era, Lie, Receivers, Rule, Script, Start};
 use reference::states::State;
 
 impl Draws {
-    /// Faulty nodes: mostly as many as the plan stands.
+    /// Faulty nodes: mostly as many as the plan tolerates.
     fn faulty(&mut self, plan: &Plan) -> Vec<u64> {
         let wanted = if self.once_in(3) {
             self.below(plan.faults().wrapping_add(1))
@@ -75,7 +75,7 @@ impl Draws {
         groups
     }
 
-    /// Whom a lie is told, where there are so many groups.
+    /// Who hears a lie, if there are so many groups.
     fn receivers(&mut self, plan: &Plan, groups: u64) -> Receivers {
         match self.below(3) {
             0 => Receivers::All,
@@ -99,7 +99,7 @@ impl Draws {
         }
     }
 
-    /// A rule for one of these nodes, where there are so many groups.
+    /// A rule for one of these nodes, if there are so many groups.
     fn rule(&mut self, plan: &Plan, liars: &[u64], groups: u64, centre: &State) -> Rule {
         let place = self.below(liars.len() as u64);
         let sender = liars.get(place as usize).copied().unwrap_or(0);

@@ -32,7 +32,7 @@ impl Draws {
         }
     }
 
-    /// Puts an item behind others, where there is memory for it.
+    /// Puts an item after others, if there is memory for it.
     pub fn put<T: Drop>(&mut self, items: &mut Vec<T>, item: T) {
         if items.push(item).is_err() {
             self.memory = Err(AllocError);
@@ -44,7 +44,7 @@ impl Draws {
         self.memory
     }
 
-    /// A number below `count`, or 0 where that is 0.
+    /// A number below `count`, or 0 if that is 0.
     pub fn below(&mut self, count: u64) -> u64 {
         let high = u64::from(self.generator.next_u32() % 65536);
         let low = u64::from(self.generator.next_u32());

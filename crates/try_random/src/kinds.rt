@@ -44,7 +44,7 @@ pub enum Source {
 }
 
 impl Draws {
-    /// A case on a plan, with a script of a version where it has one.
+    /// A case on a plan, with a script of a version if it has one.
     pub fn case(&mut self, kind: Kind, plan: &mut Plan, version: u64) -> Result<Case, AllocError> {
         match kind {
             Kind::Run => self.run_case(plan, version),

@@ -13,7 +13,7 @@ struct Agreement {
     inputs: Vec<u64>,
 }
 
-// Written out, so that what lets go of one calls this, and no more.
+// Written out, so that code that drops one has a single call.
 impl Drop for Agreement {
     fn drop(self) {
         let Agreement { values: _, inputs } = self;
@@ -30,7 +30,7 @@ fn are_below(inputs: &[u64], values: u64) -> bool {
     are_below
 }
 
-/// The first rule that fails, and on which line behind that of `agree 1`.
+/// The first rule that fails, and on which line after that of `agree 1`.
 fn broken(plan: &Plan, agreement: &Agreement) -> Option<(u64, &'static str)> {
     let values = agreement.values;
     if remainder(plan.modulus(), plan.slot()) != 0 {

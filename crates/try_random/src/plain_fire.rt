@@ -9,7 +9,7 @@ use reference::plans::{Plan, remainder};
 use reference::spans::{Span, broken_request};
 use std::alloc::AllocError;
 
-/// The first rule that a request fails, and on which line behind that of `fire 1`.
+/// The first rule that a request fails, and on which line after that of `fire 1`.
 fn broken_of_all(plan: &Plan, requests: &[Span]) -> Option<(u64, &'static str)> {
     let mut place = 1u64;
     for request in requests {
@@ -21,7 +21,7 @@ fn broken_of_all(plan: &Plan, requests: &[Span]) -> Option<(u64, &'static str)> 
     None
 }
 
-/// The first rule that fails, and on which line behind that of `fire 1`.
+/// The first rule that fails, and on which line after that of `fire 1`.
 fn broken(plan: &Plan, requests: &[Span]) -> Option<(u64, &'static str)> {
     if remainder(plan.modulus(), plan.slot()) != 0 {
         Some((0, "slot"))

@@ -17,7 +17,7 @@ struct Commands {
     commands: Vec<Vec<u64>>,
 }
 
-// Written out, so that what lets go of one calls this, and no more.
+// Written out, so that code that drops one has a single call.
 impl Drop for Commands {
     fn drop(self) {
         let Commands {
@@ -29,7 +29,7 @@ impl Drop for Commands {
     }
 }
 
-/// The first rule that the commands of a node fail, and on which line behind that of `log 1`.
+/// The first rule that the commands of a node fail, and on which line after that of `log 1`.
 fn broken_of_nodes(lines: &Commands) -> Option<(u64, &'static str)> {
     let mut place = 3u64;
     for own in &lines.commands {
@@ -41,7 +41,7 @@ fn broken_of_nodes(lines: &Commands) -> Option<(u64, &'static str)> {
     None
 }
 
-/// The first rule that fails, and on which line behind that of `log 1`.
+/// The first rule that fails, and on which line after that of `log 1`.
 fn broken(plan: &Plan, lines: &Commands) -> Option<(u64, &'static str)> {
     if remainder(plan.modulus(), Numbers::of(plan).turn()) != 0 {
         Some((0, "slot"))

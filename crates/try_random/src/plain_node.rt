@@ -11,7 +11,7 @@ use std::alloc::AllocError;
 /// The lines of a node that hears only itself, and counts modulo 4.
 const COUNTING: &[u8] = b"plan 1\nbase 4\nend\nnode 1\nid 0\nstate 00\nend\n";
 
-/// The rule that fails, and on which line behind that of `node 1`.
+/// The rule that fails, and on which line after that of `node 1`.
 fn broken(plan: &Plan, node: &Node) -> Option<(u64, &'static str)> {
     if node.id >= plan.nodes() {
         Some((1, "node"))

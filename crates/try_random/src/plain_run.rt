@@ -28,7 +28,7 @@ impl Draws {
     }
 
     /// A case of a word that plays a script: its input is these lines, of a plan and of a part, and
-    /// behind them those of the script.
+    /// after them those of the script.
     pub fn played(
         &mut self,
         word: &'static str,

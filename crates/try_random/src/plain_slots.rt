@@ -9,7 +9,7 @@ use reference::plans::Plan;
 use reference::spans::{Span, broken_slot};
 use std::alloc::AllocError;
 
-/// The first rule that a slot fails, and on which line behind that of `slots 1`.
+/// The first rule that a slot fails, and on which line after that of `slots 1`.
 fn broken(plan: &Plan, slots: &[Span]) -> Option<(u64, &'static str)> {
     for (place, slot) in slots.iter().enumerate() {
         let others = slots.get(..place).unwrap_or(&[]);

@@ -52,7 +52,7 @@ fn changed_case(draws: &mut Draws, case: &Case) -> Result<Case, AllocError> {
     judged_case(draws.alloc, changed)
 }
 
-/// Whether a case is answered as it should be, and, where it is a certificate, changes of it.
+/// Whether a case is answered as it should be, and, if it is a certificate, changes of it.
 fn agrees(rt: &HostRuntime, draws: &mut Draws, case: &Case) -> anyhow::Result<bool> {
     let mut same = is_answered(rt, case)?;
     let changes = if case.word == "check" { CHANGES } else { 0 };
@@ -254,7 +254,7 @@ fn try_nodes(rt: &HostRuntime, draws: &mut Draws) -> anyhow::Result<()> {
     Ok(())
 }
 
-/// 1 where three cases on a plan agree, one of each kind, else 0.
+/// 1 if three cases on a plan agree, one of each kind, else 0.
 fn all_agree(
     rt: &HostRuntime,
     draws: &mut Draws,

@@ -2,7 +2,7 @@
 
 use edge_io::{MemSink, PlainSource};
 use node_words::serve_node;
-use pulse_nodes::PulseNodes;
+use pulse_texts::PulseNodes;
 use reference::nodes::put_cell;
 use reference::pulse_groups::Group;
 use reference::pulse_states::{State, written};
@@ -28,7 +28,7 @@ pub struct Node {
     packets: u64,
 }
 
-// Written out, so that what lets go of one calls this, and no more.
+// Written out, so that code that drops one has a single call.
 impl Drop for Node {
     fn drop(self) {
         let Node {

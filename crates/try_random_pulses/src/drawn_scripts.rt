@@ -79,7 +79,7 @@ impl Draws {
         Ok(groups)
     }
 
-    /// Whom a lie is told, where there are so many groups.
+    /// Who hears a lie, if there are so many groups.
     fn receivers(&mut self, plan: &Group, groups: u64) -> Receivers {
         match self.below(3) {
             0 => Receivers::All,

@@ -77,7 +77,7 @@ impl Draws {
         self.bytes(count)
     }
 
-    /// A state that a faulty node tells another: what it has itself, or another node, and to each
+    /// A state that a faulty node says to another: what it has itself, or another node, and to each
     /// second node what that would be some rounds later.
     fn other_face(&mut self, plan: &Group, sender: u64, receiver: u64, states: &[State]) -> State {
         let model = if self.once_in(2) {
@@ -97,7 +97,7 @@ impl Draws {
         state
     }
 
-    /// The bytes that a faulty node tells another, where the nodes are in these states.
+    /// The bytes that a faulty node says to another, if the nodes are in these states.
     pub fn lie(
         &mut self,
         lies: Lies,

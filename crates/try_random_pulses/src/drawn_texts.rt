@@ -24,8 +24,8 @@ const PIECES: [&[u8]; 16] = [
 ];
 
 impl Draws {
-    /// The place behind some bytes of a text from a place on: none, one, all to the end of the
-    /// line, or all.
+    /// The place after some bytes of a text from a place on: none, one, all to the end of the line,
+    /// or all.
     fn end_behind(&mut self, text: &[u8], first: usize) -> usize {
         let rest = text.get(first..).unwrap_or(&[]);
         let line = rest.iter().position(|byte| *byte == 10);

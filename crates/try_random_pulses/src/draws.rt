@@ -21,7 +21,7 @@ impl Draws {
         }
     }
 
-    /// A number below `count`, or 0 where that is 0.
+    /// A number below `count`, or 0 if that is 0.
     pub fn below(&mut self, count: u64) -> u64 {
         let high = u64::from(self.generator.next_u32() % 65536);
         let low = u64::from(self.generator.next_u32());
@@ -49,7 +49,7 @@ impl Draws {
     }
 
     /// So many marks, `wanted` of which are set: any, or, one time in three, such that stand side
-    /// by side, the first place being behind the last.
+    /// by side, the first place being after the last.
     pub fn marks(&mut self, count: u64, wanted: u64) -> Result<Vec<bool>, AllocError> {
         let mut marks = Vec::new(self.alloc);
         let first = self.below(count);

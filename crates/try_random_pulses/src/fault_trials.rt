@@ -2,16 +2,15 @@
 
 use edge_io::{MemSink, MemSource};
 use node_words::{HeaderRefusal, NodeError, serve_node};
-use pulse_nodes::PulseNodes;
 use pulse_plan::PulsePremise;
-use pulse_texts::LinePremise;
+use pulse_texts::{LinePremise, PulseNodes};
 use std::alloc::Global;
 use sync_types::Rule;
 
 /// How a call of a node ends.
 type Ended = Result<u64, NodeError<LinePremise>>;
 
-/// An input of node 1 of four, how it ends, and the bytes that are written, where nothing fails.
+/// An input of node 1 of four, how it ends, and the bytes that are written, if nothing fails.
 #[derive(Clone, Copy)]
 pub struct Row<'a> {
     name: &'a str,
@@ -79,7 +78,7 @@ const ROOM: usize = 64;
 enum Fault {
     Read(usize),
     Write(usize),
-    /// Each write behind so many bytes.
+    /// Each write after so many bytes.
     Full(usize),
 }
 
@@ -101,8 +100,8 @@ impl Row<'_> {
         }
     }
 
-    /// How it ends, and how many bytes are written, where something fails and a call moves at most
-    /// so many bytes. A call that is not made changes nothing.
+    /// How it ends, and how many bytes are written, if something fails and a call moves at most so
+    /// many bytes. A call that is not made changes nothing.
     fn wanted(&self, size: usize, fault: Fault) -> (Ended, usize) {
         let length = self.input.len();
         match fault {
@@ -128,7 +127,7 @@ impl Row<'_> {
         (self.ended, self.answer.len())
     }
 
-    /// Whether it ends so where something fails.
+    /// Whether it ends so if something fails.
     fn is_right(&self, alloc: Global, size: usize, fault: Fault) -> anyhow::Result<bool> {
         let mut reads = Vec::new(alloc);
         let mut writes = Vec::new(alloc);

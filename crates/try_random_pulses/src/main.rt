@@ -1,9 +1,9 @@
 //! Compares what the calls of pulse plans answer with a plain and slow computation of what plans,
 //! states, steps and scripts mean, which shares no code with them: texts and tables, single steps,
 //! runs in which the most nodes lie, from any start to some rounds after the bound, and scripts,
-//! also with a part between plan and script, some of three eras that go on behind the bound. What is tried is drawn, the
-//! same each time. Besides, each read and each write of a node fails in turn. With the arguments
-//! `spend N` it makes one call of a node alone, behind N allocations.
+//! also with a part between plan and script, some of three eras that go on after the bound. What is
+//! tried is drawn, the same each time. Besides, each read and each write of a node fails in turn.
+//! With the arguments `spend N` it makes one call of a node alone, after N allocations.
 #![tactic(auto)]
 
 mod calling;
@@ -32,7 +32,7 @@ use crate::step_trials::try_steps;
 use crate::text_trials::try_texts;
 use std::{env, io};
 
-/// The arguments behind the program's own name.
+/// The arguments after the program's own name.
 fn arguments(rt: &HostRuntime) -> io::Result<Vec<String>> {
     let mut arguments = Vec::new(rt.alloc());
     for argument in env::args(rt)?.skip(1) {

@@ -4,7 +4,7 @@
 use crate::fault_trials::ONE_PACKET;
 use edge_io::{NullSink, PlainSource};
 use node_words::{NodeError, serve_node};
-use pulse_nodes::PulseNodes;
+use pulse_texts::PulseNodes;
 use std::alloc::Global;
 
 /// Takes memory so many times and gives it back, whether it is refused or not.
@@ -16,7 +16,7 @@ fn spend(alloc: Global, count: u64) {
     }
 }
 
-/// Gives a header and a packet to a node, behind so many allocations, and prints its exit code and
+/// Gives a header and a packet to a node, after so many allocations, and prints its exit code and
 /// how many bytes were taken.
 pub fn try_node(rt: &HostRuntime, spent: u64) -> anyhow::Result<()> {
     let mut source = PlainSource::new(ONE_PACKET.input);

@@ -21,7 +21,7 @@ pub struct Run<'a> {
     nodes: Vec<Node>,
 }
 
-// Written out, so that what lets go of one calls this, and no more.
+// Written out, so that code that drops one has a single call.
 impl Drop for Run<'_> {
     fn drop(self) {
         let Run {
@@ -88,9 +88,9 @@ impl<'a> Run<'a> {
         Ok(cells)
     }
 
-    /// Puts what a node tells another, where it is in a state with these bytes, behind what that
-    /// one hears.
-    fn tell(
+    /// Puts what a node says to another, if it is in a state with these bytes, after what that one
+    /// hears.
+    fn put_heard(
         &self,
         draws: &mut Draws,
         sender: u64,
@@ -119,7 +119,7 @@ impl<'a> Run<'a> {
             packet: Vec::new(draws.alloc),
         };
         for (sender, cell) in cells.iter().enumerate() {
-            self.tell(draws, sender as u64, cell, node, &mut hearing)?;
+            self.put_heard(draws, sender as u64, cell, node, &mut hearing)?;
         }
         Ok(hearing)
     }

@@ -19,8 +19,8 @@ const MOST_FAULTS: u64 = 4;
 /// How many rounds are played after the bound.
 const ROUNDS_AFTER: u64 = 12;
 
-/// Whether a configuration is as it should be, where the correct nodes are locked at this value, if
-/// they are, and were in the configuration before: a lock goes on and counts, and is due from the
+/// Whether a configuration is as it should be, with the correct nodes locked at `now`, if they are,
+/// and at `before` in the configuration before: a lock goes on and counts, and is due from the
 /// bound on.
 fn is_due(plan: &Group, before: Option<u64>, now: Option<u64>, at: u64) -> bool {
     match before {

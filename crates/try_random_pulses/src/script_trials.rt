@@ -15,7 +15,7 @@ use reference::pulse_texts::text_of;
 use reference::refusals::Stop;
 use std::alloc::{AllocError, Global};
 
-/// How many faults plans tolerate whose scripts go on behind the bound, and how many scripts these
+/// How many faults plans tolerate whose scripts go on after the bound, and how many scripts these
 /// are, and how many with a part.
 const SCRIPTS: [(u64, u64, u64); 4] = [(1, 40, 20), (2, 10, 5), (3, 5, 3), (4, 3, 2)];
 
@@ -123,7 +123,7 @@ fn plan_for(kind: Kind, faults: u64) -> Group {
     plan
 }
 
-/// How long eras of a plan are that go on behind the bound, with a layer for some slots.
+/// How long eras of a plan are that go on after the bound, with a layer for some slots.
 fn length_of(kind: Kind, plan: &Group) -> u64 {
     let numbers = Numbers::of_pulses(plan);
     let behind = match kind.slot(&numbers) {
@@ -133,7 +133,7 @@ fn length_of(kind: Kind, plan: &Group) -> u64 {
     plan.bound().wrapping_add(behind)
 }
 
-/// Plays scripts of so many eras after the first whose eras go on behind the bound.
+/// Plays scripts of so many eras after the first whose eras go on after the bound.
 fn try_eras(
     rt: &HostRuntime,
     draws: &mut Draws,

@@ -1,5 +1,5 @@
 //! Tries the calls that play, write, check and explain runs. There is nothing here but tests, as in
-//! `try_calls`, `try_texts`, `try_counters` and `try_layers`, which try the crates below these.
+//! `try_texts`, `try_counters` and `try_layers`, which try the crates below these.
 #![tactic(auto)]
 
 #[cfg(test)]

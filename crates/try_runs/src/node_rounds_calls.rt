@@ -124,7 +124,7 @@ fn plays_alike(alloc: Global, plan: &Plan, v: u32, script: &str) -> Result<bool,
     Ok(answer == Ok(60) && sink.taken() == cells.as_slice())
 }
 
-/// The faulty node too: it steps by what it hears, and tells the others something else.
+/// The faulty node too: it steps by what it hears, and says something else to the others.
 #[test]
 fn four_engines_play_the_rounds_of_a_script(rt: HostRuntime) -> Result<(), Fail> {
     for row in &ROWS {

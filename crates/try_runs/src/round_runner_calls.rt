@@ -6,7 +6,7 @@ use std::test::Fail;
 
 const PLAN: &str = "plan 1\nbase 2304\nlevel 4 1 10\nend\n";
 
-/// Node 3 tells nodes 1 and 2 another state than node 0.
+/// Node 3 says another state to nodes 1 and 2 than to node 0.
 const SCRIPT: &str = "script 1
 faulty 3
 start zero

@@ -17,12 +17,12 @@ fn read(alloc: Global, plan: &str, text: &[u8]) -> Result<Script, ScriptError> {
         Ok(plan) => plan,
         Err(_) => return Err(ScriptError::NoMemory),
     };
-    let shape = StateShape::of(alloc, &plan)?;
+    let shape = StateShape::of(alloc, &plan).map_err(|_| ScriptError::NoMemory)?;
     let text = if text.len() < 100_000 { text } else { &[] };
     read_script(alloc, &plan, &shape, text, 5)
 }
 
-/// Scripts that are refused: what stands behind the first three lines, and the line and the rule.
+/// Scripts that are refused: what stands after the first three lines, and the line and the rule.
 const ROWS: [(&str, u64, Rule); 11] = [
     ("start node 1 0000\nstart node 2 0", 9, Rule::Hex),
     ("group left 4 3", 8, Rule::Node),
@@ -37,7 +37,7 @@ const ROWS: [(&str, u64, Rule); 11] = [
     ("rounds 3\nshow 3 3\nend\n\n# more\nend", 13, Rule::Form),
 ];
 
-/// The answer to a script with this text behind its first three lines.
+/// The answer to a script with this text after its first three lines.
 fn answer(alloc: Global, text: &str) -> Result<Option<ScriptError>, Fail> {
     let mut script = Vec::new(alloc);
     script.extend_from_slice(b"script 2\nfaulty 3\nstart zero\n")?;
@@ -86,7 +86,7 @@ const TEXTS: [(ScriptError, &str); 2] = [
             line: 6,
             rule: Rule::Faults,
         }),
-        "line 6 of the script fails the rule Faults",
+        "line 6 fails the rule Faults",
     ),
     (ScriptError::NoMemory, "out of memory"),
 ];

@@ -75,10 +75,10 @@ fn the_plan_of_a_header_is_refused(rt: HostRuntime) -> Result<(), Fail> {
     Ok(())
 }
 
-/// The header of node 0 of a counter modulo 5 in the state 4, and a byte behind it.
+/// The header of node 0 of a counter modulo 5 in the state 4, and a byte after it.
 const ONE: &[u8] = b"plan 1\nbase 5\nend\nnode 1\nid 0\nstate 80\nend\nx";
 
-/// Whether it is read so, and the byte behind it is left.
+/// Whether it is read so, and the byte after it is left.
 fn is_of_one(alloc: Global, line: &mut LineBuf) -> bool {
     let mut source = PlainSource::new(ONE);
     let mut feed = Feed::new(&mut source);

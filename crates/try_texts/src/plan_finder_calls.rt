@@ -87,7 +87,7 @@ fn a_line_is_refused_by_its_first_rule(rt: HostRuntime) {
     }
 }
 
-/// Faults, and the least bound of a plan that bears them.
+/// Faults, and the least bound of a plan that tolerates them.
 const BOUNDS: [(u64, u64); 8] = [
     (0, 0),
     (1, 960),
@@ -161,7 +161,7 @@ const TEXTS: [(FindError, &str); 2] = [
             line: 2,
             rule: Rule::Range,
         }),
-        "line 2 of the wants fails the rule Range",
+        "line 2 fails the rule Range",
     ),
     (FindError::NoMemory, "out of memory"),
 ];

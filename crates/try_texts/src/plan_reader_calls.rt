@@ -146,7 +146,7 @@ const PARTS: [Part; 2] = [
     (TWO_LEVELS, 48, 5, 2304, 2),
 ];
 
-/// Whether the plan at the front of a text is that of a row.
+/// Whether the plan at the beginning of a text is that of a row.
 fn is_part(alloc: Global, row: &Part) -> Result<bool, Fail> {
     let (plan, bytes, lines) = read_plan(alloc, row.0.as_bytes())?;
     let holds = bytes == row.1
@@ -186,7 +186,7 @@ const LINES: [&str; 5] = [
     "level 3 1 10 spare 1",
 ];
 
-/// A reader of all lines of a plan but its last, where it takes them.
+/// A reader of all lines of a plan but its last, if it takes them.
 fn all_but_end(alloc: Global) -> Option<PlanLines> {
     let mut lines = PlanLines::new(alloc);
     for line in &LINES {
@@ -197,7 +197,7 @@ fn all_but_end(alloc: Global) -> Option<PlanLines> {
     Some(lines)
 }
 
-/// Whether this line behind them is not of the grammar.
+/// Whether this line after them is not of the grammar.
 fn fails_form(alloc: Global, line: &str) -> bool {
     match all_but_end(alloc) {
         Some(mut lines) => {
@@ -207,7 +207,7 @@ fn fails_form(alloc: Global, line: &str) -> bool {
     }
 }
 
-/// Whether `end` behind them gives a plan of four nodes.
+/// Whether `end` after them gives a plan of four nodes.
 fn ends(alloc: Global) -> bool {
     match all_but_end(alloc) {
         Some(mut lines) => matches!(lines.take(b"end"), Ok(Some(plan)) if plan.nodes() == 4),
@@ -225,7 +225,7 @@ fn lines_are_taken_one_by_one(rt: HostRuntime) {
     assert!(rt; ends(rt.alloc()));
 }
 
-/// A plan, and behind it a comment of so many bytes.
+/// A plan, and after it a comment of so many bytes.
 fn commented(alloc: Global, bytes: usize) -> Result<Vec<u8>, AllocError> {
     let mut text = Vec::from_slice(alloc, b"plan 1\nbase 5\nend\n")?;
     for _ in 0..bytes {

@@ -6,7 +6,7 @@ use Rattle.std.specs.Prelude.{nat_lt}
 use Rattle.std.specs.Io.KnownBytes.{Consumes, IsAtEnd}
 use Rattle.std.proofs.lemmas.Bool.{lt-ltb, le-ltb}
 use Rattle.texts.specs.Causes.{Counted}
-use Rattle.texts.specs.Growth.{Told, Wrote, Cut}
+use Rattle.texts.specs.Growth.{SinkState, Wrote, Cut}
 use Rattle.texts.proofs.Growth.{wrote_none}
 use Rattle.edge_io.specs.FedParts.{MayFollow}
 use Rattle.sync_types.specs.declared.status.Status.TheVariants as status
@@ -22,7 +22,7 @@ use Rattle.outcomes.specs.Outcomes.{Outcome, outcome_of, too_long}
 use Rattle.outcomes.specs.CheckAnswers.{verdict_outcome, checked_outcome, check_outcome}
 use Rattle.outcomes.specs.Conduct.{ReadsFront, ReadsAll, Does, LeavesUnmet, LeavesUntouched}
 
--- a front of an input was read, of which what is left follows
+-- a prefix of an input was read, and what is left follows it
 front_read : (s l : Option (List ℕ)) (bytes : List ℕ) → Consumes s l bytes
     → ReadsFront s l (bytes ++ left_of l)
 front_read s l bytes read =
@@ -65,14 +65,14 @@ verdict_unmet (verdict.False row) before now = tt
 
 module _ (s l : Option (List ℕ)) (before now : ℕ) where
   -- a read failed
-  pub check_lost : (t : Told) → IsLost (2 ^ 44) s l → Counted before now
+  pub check_lost : (t : SinkState) → IsLost (2 ^ 44) s l → Counted before now
       → Does (Some command.Check) status.ReadFault s l before now t t
   check_lost t h cause =
       record
       { seen = h.bytes; read = h.read; pending = h.pending; cause = cause; wrote = wrote_none t }
 
   -- the text is too long
-  pub check_long : (t : Told) → IsTooLong (2 ^ 44) s l → now ≡ before
+  pub check_long : (t : SinkState) → IsTooLong (2 ^ 44) s l → now ≡ before
       → Does (Some command.Check) status.TooLong s l before now t t
   check_long t h still =
       let input = h.bytes ++ left_of l in
@@ -91,7 +91,8 @@ module _ (s l : Option (List ℕ)) (before now : ℕ) where
       }
 
   -- a line is refused
-  module _ (line : ℕ) (h : IsRefused (2 ^ 44) s l line) (still : now ≡ before) (t u : Told) where
+  module _ (line : ℕ) (h : IsRefused (2 ^ 44) s l line) (still : now ≡ before)
+      (t u : SinkState) where
     input : Input s l h.bytes h.ended
     input = input_of h.ended s l h.bytes h.read h.at_end h.within
 
@@ -119,7 +120,7 @@ module _ (s l : Option (List ℕ)) (before now : ℕ) where
 
   -- the text is a certificate's
   module _ (law : LimitsMatterBeyond) (v : Verdict) (h : IsChecked (2 ^ 44) s l v)
-      (still : now ≡ before) (t u : Told) where
+      (still : now ≡ before) (t u : SinkState) where
     all_read : ReadsAll s l h.text
     all_read = record { read = h.read; end = h.at_end }
 
@@ -137,7 +138,7 @@ module _ (s l : Option (List ℕ)) (before now : ℕ) where
         }
 
   pub check_done : LimitsMatterBeyond → (v : Verdict) → IsChecked (2 ^ 44) s l v → now ≡ before
-      → (t u : Told) → Wrote (verdict_outcome v).text t u
+      → (t u : SinkState) → Wrote (verdict_outcome v).text t u
       → Does (Some command.Check) (verdict_outcome v).status s l before now t u
   check_done law (verdict.True rows locked) h still t u wrote =
       let is = verdict_is law (verdict.True rows locked) h still t u in

@@ -1,7 +1,7 @@
 -- What the word `node` did, by what a call of a node of a plan did.
 use Rattle.std.proofs.Common.{ℕ, Bool, List, Option, Some, Result, Ok, Err, refl, ap}
 use Rattle.std.specs.Prelude.{IfOk}
-use Rattle.texts.specs.Growth.{Told}
+use Rattle.texts.specs.Growth.{SinkState}
 use Rattle.sync_types.specs.declared.answers.Premise.{Premise}
 use Rattle.construction.specs.Plans.{Plan}
 use Rattle.state_codec.specs.Shapes.{moduli_of}
@@ -24,7 +24,7 @@ any_shaped (Err other) plan = tt
 any_shaped (Ok value) plan =
     record { nodes = nodes_of_shape plan (moduli_of plan.levels); fields = λ v lt. refl }
 
-module _ (left left' : Option (List ℕ)) (before now : ℕ) (old new : Told) where
+module _ (left left' : Option (List ℕ)) (before now : ℕ) (old new : SinkState) where
   abbrev Did : Result ℕ (NodeError Premise) → Type 0
   Did ended = any.NodeDoes plan_words ended left left' before now old new
 

@@ -1,6 +1,6 @@
--- What a command did that reads nothing.
+-- What a command that reads nothing did.
 use Rattle.std.proofs.Common.{◌≡◌, ℕ, List, Option, refl}
-use Rattle.texts.specs.Growth.{Told, Wrote, Cut}
+use Rattle.texts.specs.Growth.{SinkState, Wrote, Cut}
 use Rattle.sync_types.specs.declared.status.Status.{Status}
 use Rattle.node_words.proofs.Returns.{left_of, holds_left}
 use Rattle.outcomes.specs.Outcomes.{Outcome}
@@ -8,7 +8,7 @@ use Rattle.outcomes.specs.Commands.{nothing}
 use Rattle.outcomes.specs.Conduct.{Answered, AnswerCut}
 
 module _ (outcome : List ℕ → Outcome) (o : Outcome) (same : (input : List ℕ) → outcome input ≡ o)
-    (left : Option (List ℕ)) (count : ℕ) (old new : Told) where
+    (left : Option (List ℕ)) (count : ℕ) (old new : SinkState) where
   -- its text was written
   pub unread_answered : (s : Status) → s ≡ o.status → Wrote o.text old new
       → Answered nothing outcome s left left count count old new
@@ -20,7 +20,7 @@ module _ (outcome : List ℕ → Outcome) (o : Outcome) (same : (input : List �
     wrote = rw (same (left_of left)) wrote;
   }
 
-  -- or a front of it
+  -- or a prefix of it
   pub unread_cut : Cut o.text old new → AnswerCut nothing outcome left left count count old new
   unread_cut cut = record {
     input = left_of left;

@@ -3,7 +3,7 @@ use Rattle.std.proofs.Common.{◌≡◌, ℕ, ◌<◌, ◌≤◌, ◌^◌, Bool,
 use Rattle.std.proofs.Common.{Some, None, Result, Ok, Err, refl, sym, ap, ◌∙◌, length-append, arith}
 use Rattle.std.proofs.lemmas.Bool.{lt-ltb, le-ltb}
 use Rattle.texts.specs.Causes.{Counted}
-use Rattle.texts.specs.Growth.{Told, Wrote, Cut}
+use Rattle.texts.specs.Growth.{SinkState, Wrote, Cut}
 use Rattle.edge_io.specs.Reading.{LosesWithin, LosesMore}
 use Rattle.sync_types.specs.declared.status.Status.{Status}
 use Rattle.sync_types.specs.declared.status.Status.TheVariants as status
@@ -19,7 +19,7 @@ use Rattle.outcomes.specs.Conduct.{LeavesUntouched}
 use Rattle.answers.specs.Ends.{Ends}
 use Rattle.answers.proofs.Ended.{ends_by}
 
--- a front of an input that is too long was read
+-- a prefix of an input that is too long was read
 record ReadsBeyond (limit : ℕ) (left left' : Option (List ℕ)) : Type 0 where
   input : List ℕ
   read : ReadsFront left left' input
@@ -39,7 +39,7 @@ beyond_limit limit left None h = record {
 }
 
 module _ (b : Batch) (left left' : Option (List ℕ)) (before now : ℕ) where
-  abbrev Did : Status → Told → Told → Type 0
+  abbrev Did : Status → SinkState → SinkState → Type 0
   Did s old new = Does (Some (command.Batch b)) s left left' before now old new
 
   -- the outcome of a long input, and of a short one
@@ -55,7 +55,7 @@ module _ (b : Batch) (left left' : Option (List ℕ)) (before now : ℕ) where
 
   -- ---- the input was not read
 
-  pub lost : (sink : Told) → LosesWithin (2 ^ 20) left left' → Counted before now
+  pub lost : (sink : SinkState) → LosesWithin (2 ^ 20) left left' → Counted before now
       → Did status.ReadFault sink sink
   lost sink h cause = record {
     seen = h.front;
@@ -65,7 +65,7 @@ module _ (b : Batch) (left left' : Option (List ℕ)) (before now : ℕ) where
     wrote = record { none = refl; same = refl };
   }
 
-  pub beyond : (sink : Told) → LosesMore (2 ^ 20) left left' → now ≡ before
+  pub beyond : (sink : SinkState) → LosesMore (2 ^ 20) left left' → now ≡ before
       → Did status.TooLong sink sink
   beyond sink more still =
       let h = beyond_limit (2 ^ 20) left left' more in
@@ -81,7 +81,7 @@ module _ (b : Batch) (left left' : Option (List ℕ)) (before now : ℕ) where
   -- ---- the input was read
 
   module _ (input : List ℕ) (read : ReadsAll left left' input) (still : now ≡ before)
-      (short : length input ≤ 2 ^ 20) (old new : Told) where
+      (short : length input ≤ 2 ^ 20) (old new : SinkState) where
     given : (s : Status) (r : Result (List ℕ) Refusal) → answer_of b input ≡ r
         → s ≡ (outcome_of r).status → Reads all_first s left left' input
         → Writes all_first s (outcome_of r).text old new
@@ -122,7 +122,7 @@ module _ (b : Batch) (left left' : Option (List ℕ)) (before now : ℕ) where
     }
 
   -- by what became of a sink that tells what it took
-  module _ {K : Type 0} (told : K → Told) (input : List ℕ) (read : ReadsAll left left' input)
+  module _ {K : Type 0} (told : K → SinkState) (input : List ℕ) (read : ReadsAll left left' input)
       (still : now ≡ before) (short : length input ≤ 2 ^ 20) (old new : K) where
     pub answered : (s : Status) → Ends told s (answer_of b input) old new
         → Did s (told old) (told new)
@@ -142,15 +142,15 @@ touches_any b old new (Err (refusal.Part part line rule)) = tt
 touches_any b old new (Err (refusal.Certificate line)) = tt
 touches_any b old new (Err (refusal.Table line cause)) = tt
 
--- where memory was refused the sink is as it was
-pub untouched : {K : Type 0} (told : K → Told) (b : Batch) (input : List ℕ) (old new : K)
+-- if memory was refused, the sink is as it was
+pub untouched : {K : Type 0} (told : K → SinkState) (b : Batch) (input : List ℕ) (old new : K)
     (s : Status) → Ends told s (answer_of b input) old new
     → LeavesUntouched (Some (command.Batch b)) s old new
 untouched told b input old new =
     ends_by told (λ s. LeavesUntouched (Some (command.Batch b)) s old new) (answer_of b input) old
     new (λ cut. tt) (λ none. none) (λ wrote. touches_any b old new (answer_of b input))
 
--- ---- no read fails behind the end
+-- ---- no read fails after the end
 
 unmet_any : (before now : Bool) (r : Result (List ℕ) Refusal)
     → LeavesUnmet (outcome_of r).status before now
@@ -162,7 +162,7 @@ unmet_any before now (Err (refusal.Certificate line)) = tt
 unmet_any before now (Err (refusal.Table line cause)) = tt
 
 -- an input that was read is not answered by a read fault
-pub unmet : {K : Type 0} (told : K → Told) (b : Batch) (input : List ℕ) (old new : K)
+pub unmet : {K : Type 0} (told : K → SinkState) (b : Batch) (input : List ℕ) (old new : K)
     (before now : Bool) (s : Status) → Ends told s (answer_of b input) old new
     → LeavesUnmet s before now
 unmet told b input old new before now =

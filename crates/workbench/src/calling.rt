@@ -76,7 +76,7 @@ fn answer<S: Source, K: Sink>(
 /// All that the program does: reads what the words ask for, and writes the answer.
 ///
 /// The words are the program's arguments. `node` writes while it reads: a cell when its header has
-/// been read, which has at most 2^20 bytes, and one behind each packet. `check` reads a certificate
+/// been read, which has at most 2^20 bytes, and one after each packet. `check` reads a certificate
 /// of at most 2^44 bytes line by line, to its end or a line that is refused, and then writes.
 /// `demo` with a number reads nothing: its input is the text that is made of the number. Each other
 /// command reads the whole source, at most 2^20 bytes, before it writes. The status says what
@@ -84,19 +84,19 @@ fn answer<S: Source, K: Sink>(
 ///
 /// - `Ok`: it was accepted, and all was written.
 /// - `Usage`: the words are no command; nothing was read, and the line of usage was written.
-/// - `PlanRefused`, `PartRefused`, `CertRefused`, `TableRefused`: exactly where it is refused, with
+/// - `PlanRefused`, `PartRefused`, `CertRefused`, `TableRefused`: exactly if it is refused, with
 ///   the first line that fails; the refusal's line was written.
-/// - `CertFalse`: of `check` alone, exactly where it is a run certificate of which a row differs
-///   from the run that it states, with the first such row; its line was written.
-/// - `Cut`: of `node` alone, exactly where the input ends inside a packet; a cell was written at
-///   the start and for each whole packet, and no line.
-/// - `ReadFault`: only where the source counted a fault in this call, and just one, before its end
-///   was met, and behind bytes that do not show what decides, so never of `demo`; nothing was
-///   written, and by `node` the cells of the whole packets that were read.
-/// - `WriteFault`: only where the sink counted one, and just one; a front of the answer was taken.
-/// - `TooLong`: exactly where the byte behind the limit was there, and, of `check` and of the
-///   header of `node`, no line was refused before it; nothing was written. Of `node` also where
-///   there was a byte of packet 1,000,001, and then all cells were written.
+/// - `CertFalse`: of `check` alone, exactly if it is a run certificate of which a row differs from
+///   the run that it states, with the first such row; its line was written.
+/// - `Cut`: of `node` alone, exactly if the input ends inside a packet; a cell was written at the
+///   start and for each whole packet, and no line.
+/// - `ReadFault`: only if the source counted a fault in this call, and just one, before its end
+///   was met, and after bytes that do not show what decides, so never of `demo`; nothing was
+///   written, but by `node` the cells of the whole packets that were read.
+/// - `WriteFault`: only if the sink counted one, and just one; a prefix of the answer was taken.
+/// - `TooLong`: exactly if the byte after the limit was there, and, of `check` and of the header of
+///   `node`, no line was refused before it; nothing was written. Of `node` also if there was a byte
+///   of packet 1,000,001, and then all cells were written.
 /// - `NoMemory`: memory was refused, before the first byte was written; never at `Usage`.
 pub fn counterlab<S: Source, K: Sink>(
     alloc: Global,
@@ -113,20 +113,20 @@ pub fn counterlab<S: Source, K: Sink>(
     ensures unread { LeavesUnread (manner (command_of (map string_bytes words.now)))
         source.old source.new }
 
-    // No source is asked again behind its end: where a read failed, none before it gave nothing.
+    // No source is asked again after its end: if a read failed, no read before it gave nothing.
     ensures unmet { LeavesUnmet result (S.met source.old) (S.met source.new) }
 
-    // And where nothing was to be written, the sink is as it was.
+    // And if nothing was to be written, the sink is as it was.
     ensures untouched { LeavesUntouched (command_of (map string_bytes words.now)) result
         sink.old sink.new }
 
-    // Where it ended well, and the source tells its bytes: what was read from them, that the text
-    // of this was written, and that the word's promise is kept of it.
+    // If it ended well, and the source tells its bytes: what was read from them, that the text of
+    // this was written, and that the word's promise is kept of it.
     ensures prints { Prints (command_of (map string_bytes words.now)) result
         (S.left source.old) (K.told sink.old) (K.told sink.new) }
 
-    // Whatever becomes of the input: where its plan part is accepted, the plan settles, no run of
-    // it can come to an end, and what is locked stays locked.
+    // Whatever becomes of the input: if its plan part is accepted, the plan settles, no run of it
+    // can come to an end, and what is locked stays locked.
     ensures settles { AcceptedPlansSettle }
 
     // What `plan` and `upgrade` write of a plan is read back, and what `table` calls true is a
@@ -137,7 +137,7 @@ pub fn counterlab<S: Source, K: Sink>(
     // inputs, requests, a log, a header and a script.
     ensures accepts { TextsAreRead }
 
-    // Where it is a plan and a script, what is played is a run of the plan, what is written of it
+    // If it is a plan and a script, what is played is a run of the plan, what is written of it
     // counts, and what `explain` writes is why it locks.
     ensures promise { PromiseIsKept }
 
@@ -145,11 +145,11 @@ pub fn counterlab<S: Source, K: Sink>(
     // true count.
     ensures certificates { CheckIsExact }
 
-    // Where it is a plan and a script, what `record` writes is a true certificate, and `check` says
+    // If it is a plan and a script, what `record` writes is a true certificate, and `check` says
     // so.
     ensures records { RecordsAreChecked }
 
-    // What the lines of `slots`, `consensus`, `fire` and `log` say, where it is a plan, such a part
+    // What the lines of `slots`, `consensus`, `fire` and `log` say, if it is a plan, such a part
     // and a script.
     ensures holds { HoldsAreKept }
     ensures decisions { DecisionsAreKept }
@@ -162,14 +162,14 @@ pub fn counterlab<S: Source, K: Sink>(
     // And what their lines of first locked configurations say.
     ensures locks { LocksAreKept }
 
-    // What `find` answers, where its wants are read: the least plan, and the least costs, which
-    // bound how soon any plan settles.
+    // What `find` answers, if its wants are read: the least plan, and the least costs, which bound
+    // how soon any plan settles.
     ensures found { LeastIsFound }
 
-    // N calls of `node`, over a window of rounds that begins in each at a packet of its own: where
+    // N calls of `node`, over a window of rounds that begins in each at a packet of its own: if
     // each is given the cells that the correct ones write, and any bytes as those of few faulty
     // ones, what they write is a run of the plan, and counts. Once they are locked they stay so
-    // where cells are lost too. A call that takes the place of another comes to count with them.
+    // even if cells are lost. A call that takes the place of another comes to count with them.
     ensures nodes { NodePromiseIsKept }
 {
     promises_are_printed();

@@ -1,10 +1,11 @@
 use Rattle.std.proofs.Common.{[], ◌∙◌, sym, arith}
-use Rattle.answers.proofs.Explained.{puts_base, puts_why, explained_plays, skipped_plays}
+use Rattle.edge_io.proofs.Writing.{writes_is}
+use Rattle.answers.proofs.Explained.{base_is, why_is, explained_plays, skipped_plays}
 use Rattle.answers.proofs.explaining.put_why.Goals as goal
 
 pub returns-then-depth-eq0-clause-lines : goal.returns-then-depth-eq0-clause-lines
 returns-then-depth-eq0-clause-lines g c =
-    puts_base _ c.args.plan.now _ _ _ (sym c.depth.ensures.value ∙ c.if-depth-eq0.true)
+    writes_is (base_is c.args.plan.now _ (sym c.depth.ensures.value ∙ c.if-depth-eq0.true))
     c.text.ensures
 
 pub returns-then-depth-eq0-clause-played : goal.returns-then-depth-eq0-clause-played
@@ -24,8 +25,8 @@ explain-requires-clause-start g c = record {
 
 pub returns-clause-lines : goal.returns-clause-lines
 returns-clause-lines g c =
-    puts_why _ c.args.plan.now _ c.explain.result _ _
-    (λ none. c.if-depth-eq0.false (c.depth.ensures.value ∙ none)) c.explain.ensures.value
+    writes_is (why_is c.args.plan.now _ c.explain.result
+    (λ none. c.if-depth-eq0.false (c.depth.ensures.value ∙ none)) c.explain.ensures.value)
     c.put_explanation.ensures
 
 pub returns-clause-played : goal.returns-clause-played

@@ -1,11 +1,23 @@
 use Rattle.std.proofs.Common.{ℕ, List, ◌++◌, map, subst, ◌∙◌}
 use Rattle.std.specs.Prelude.{string_bytes}
 use Rattle.texts.specs.Growth.{Cut}
-use Rattle.attacks.specs.declared.kinds.Kind.{Kind}
+use Rattle.attack.specs.declared.kinds.Kind.{Kind}
 use Rattle.attack.specs.Found.{Finds}
 use Rattle.attack.specs.PlanTexts.{text_of}
-use Rattle.attack.proofs.WrittenAttacks.{faulted}
+use Rattle.attack.proofs.WrittenAttacks.{faulted, not_found, refused}
 use Rattle.attack.proofs.calling.attack_text.Goals as goal
+
+pub returns-in_err-plan : goal.returns-in_err-plan
+returns-in_err-plan g c =
+    refused c.args.numbers (map string_bytes c.args.words.now) c.args.input.now _ _ _
+    c.in_err-plan.ensures.fails c.from_residual-in_err-plan.ensures.1
+
+pub returns-in_err-text : goal.returns-in_err-text
+returns-in_err-text g c =
+    not_found c.args.numbers (map string_bytes c.args.words.now) c.args.input.now _
+    c.in_ok-plan.plan _ _ _ c.in_ok-plan.ensures.read
+    (c.deref.ensures.value ∙ c.in_ok-kinds.ensures) c.in_err-text.ensures
+    c.from_residual-in_err-text.ensures.1
 
 pub returns-in_err-write_both : goal.returns-in_err-write_both
 returns-in_err-write_both g c =
@@ -18,7 +30,7 @@ returns-in_err-write_both g c =
       found = found;
       attacked = record {
         plan = plan;
-        read = c.in_ok-plan.ensures.exact;
+        read = c.in_ok-plan.ensures.read;
         accepted = c.in_ok-plan.ensures.accepted;
         attack = text;
         finds = subst (λ (kinds : List Kind). Finds plan c.args.numbers kinds text found)

@@ -9,5 +9,5 @@ pub returns-clause-fits : goal.returns-clause-fits
 returns-clause-fits c =
     let plan = c.args.plan.now in
     IfOk-weaker c.shape_of.result _ _
-    (λ shape is. subst (IsShapeOf (machine_in plan)) (sym is) (pulses_fit plan c.tell.ensures))
+    (λ shape is. subst (IsShapeOf (machine_in plan)) (sym is) (pulses_fit plan c.facts.ensures))
     c.shape_of.ensures

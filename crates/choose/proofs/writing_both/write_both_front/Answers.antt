@@ -1,9 +1,7 @@
 use Rattle.std.proofs.Common.{rules}
-use Rattle.texts.proofs.Growth.{puts_lent}
+use Rattle.edge_io.proofs.Writing.{writes_all}
 use Rattle.choose.proofs.writing_both.write_both_front.Goals as goal
 
 pub returns : goal.returns
 returns g c =
-    puts_lent g.K.Sink.told _ _ _ _ _ _ _ _ (search rules)
-    (c.finish.ensures.puts _ _ (rw c.new-lines.ensures.told at c.put_both_front-written.ensures))
-    c.finish.ensures.none_held
+    writes_all c.new-writer.ensures c.put_both_front.ensures c.finish.ensures (search rules)

@@ -1,7 +1,7 @@
 use Rattle.std.proofs.Common.{◌≡◌, ◌-◌, ◌+◌, ◌⊎◌, ◌<◌, ◌≤◌, ℕ, None, length, sym, subst, arith}
 use Rattle.sync_types.specs.declared.states.Reg.{Reg}
 use Rattle.construction.specs.PhaseKing.{locked_at}
-use Rattle.counter_core.specs.Heeding.{HeedsOnly}
+use Rattle.counter_core.specs.Heeding.{DependsOnlyOn}
 use Rattle.counter_core.proofs.Heeded.{heeds_all}
 use Rattle.layer_laws.specs.CounterSlots.{agreed}
 use Rattle.consensus_layer.specs.Heeding.{true_count}
@@ -13,7 +13,7 @@ returns-then-is_count_open-clause-enough c =
     let h = c.args.values.now in
     let ids = c.args.faulty.now.ids in
     let find = agreed (length h.states) h.faults h.register c.args.node c.args.kind c.args.king in
-    subst (λ (to : ℕ). HeedsOnly find ids c.args.node h.states 0 to) (sym c.len.ensures.exact)
+    subst (λ (to : ℕ). DependsOnlyOn find ids c.args.node h.states 0 to) (sym c.len.ensures.exact)
     (heeds_all find ids c.args.node h.states)
 
 pub returns-else-is_count_open-clause-enough : goal.returns-else-is_count_open-clause-enough
@@ -33,7 +33,7 @@ pub returns-then-takes_other-clause-enough : goal.returns-then-takes_other-claus
 returns-then-takes_other-clause-enough c =
     let h = c.args.values.now in
     let ids = c.args.faulty.now.ids in
-    subst (λ (kind : ℕ). HeedsOnly
+    subst (λ (kind : ℕ). DependsOnlyOn
     (agreed (length h.states) h.faults h.register c.args.node kind c.args.king) ids c.args.node
     h.states c.liar_at.result.0 c.liar_at.result.1) (sym c.if-kind-eq2.true)
     (king_shut h ids c.args.node c.requires.quorum c.args.king c.liar_at.result.0
@@ -44,7 +44,7 @@ pub returns-else-takes_other-clause-enough : goal.returns-else-takes_other-claus
 returns-else-takes_other-clause-enough c =
     let h = c.args.values.now in
     let ids = c.args.faulty.now.ids in
-    subst (λ (kind : ℕ). HeedsOnly
+    subst (λ (kind : ℕ). DependsOnlyOn
     (agreed (length h.states) h.faults h.register c.args.node kind c.args.king) ids c.args.node
     h.states 0 0) (sym c.if-kind-eq2.true)
     (no_other h ids c.args.node c.requires.quorum c.args.king 0 0 c.requires.king

@@ -3,13 +3,13 @@ use Rattle.std.specs.Prelude.{nat_lt, codes}
 use Rattle.std.specs.Option.{option_map}
 use Rattle.std.specs.List.{list_all}
 use Rattle.texts.specs.Lines.{words_of}
-use Rattle.consensus_layer.specs.AgreePart.{numbers_behind}
+use Rattle.texts.specs.Shapes.{all_numbers_after}
 use Rattle.consensus_layer.proofs.FitInputs.{inputs_ok, inputs_out}
 use Rattle.consensus_layer.proofs.input_lines.read_inputs.Goals as goal
 
 pub returns-then-not-are_below : goal.returns-then-not-are_below
 returns-then-not-are_below c =
-    let is : numbers_behind (codes "inputs") (words_of c.args.line.now)
+    let is : all_numbers_after (codes "inputs") (words_of c.args.line.now)
     ≡ Some c.in-Some.inputs.items = sym c.in_ok-inputs.ensures
     ∙ ap (option_map (λ v. v.items)) c.in-Some.is in
     inputs_out c.args.values c.args.nodes c.args.line.now c.in-Some.inputs.items is
@@ -19,7 +19,7 @@ returns-then-not-are_below c =
 
 pub returns : goal.returns
 returns c =
-    let is : numbers_behind (codes "inputs") (words_of c.args.line.now)
+    let is : all_numbers_after (codes "inputs") (words_of c.args.line.now)
     ≡ Some c.in-Some.inputs.items = sym c.in_ok-inputs.ensures
     ∙ ap (option_map (λ v. v.items)) c.in-Some.is in
     inputs_ok c.args.values c.args.nodes c.args.line.now c.in-Some.inputs.items is

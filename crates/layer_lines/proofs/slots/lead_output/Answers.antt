@@ -1,5 +1,5 @@
 use Rattle.std.proofs.Common.{ap, ap₂, ◌∙◌}
-use Rattle.layer_runs.specs.Lowest.{lowest_correct}
+use Rattle.layer_laws.specs.Lowest.{lowest_correct}
 use Rattle.layer_lines.specs.SlotTexts.{output_of}
 use Rattle.layer_lines.proofs.Played.{faulty_ids}
 use Rattle.layer_lines.proofs.slots.lead_output.Goals as goal

@@ -1,22 +1,22 @@
-use Rattle.std.proofs.Common.{arith}
-use Rattle.texts.proofs.Growth.{wrote_none}
-use Rattle.run_texts.proofs.WordsSoFar.{words_more, words_cut, words_all}
+use Rattle.std.proofs.Common.{◌≡◌, ℕ, ap, arith}
+use Rattle.edge_io.proofs.Writing.{writes_none, writes_next, writes_is}
+use Rattle.machine_runner.specs.RunTexts.{word_or_star, words_of}
 use Rattle.layer_lines.proofs.words.put_words.Goals as goal
 
 pub loop-v-init : goal.loop-v-init
-loop-v-init g c = wrote_none _
-
-pub returns-in-Err : goal.returns-in-Err
-returns-in-Err g c =
-    words_cut _ (g.P.Play.position c.args.play.now).counter.nodes c.loop-v.v _ _ _
-    (omega (arith, c.loop-v-test.true, c.nodes-v-end.ensures)) c.loop-v.invariant c.in-Err.ensures
+loop-v-init g c = writes_none
 
 pub loop-v-preserved : goal.loop-v-preserved
 loop-v-preserved g c =
-    words_more _ (g.P.Play.position c.args.play.now).counter.nodes c.loop-v.v _ _ _
-    (omega (arith, c.loop-v-test.true, c.nodes-v-end.ensures)) c.loop-v.invariant c.in-Ok.ensures
+    let p = g.P.Play.position c.args.play.now in
+    writes_next (word_or_star ((g.L.Lines.wording c.args.lines.now).word p.counter p.scene)
+    c.args.faulty.now.ids) 0 c.loop-v.v c.loop-v.v c.loop-v.invariant c.put_word.ensures
+    (omega arith)
 
 pub returns : goal.returns
 returns g c =
-    words_all _ (g.P.Play.position c.args.play.now).counter.nodes c.loop-v.v _ _
-    (omega (arith, c.loop-v-test.false, c.nodes-v-end.ensures)) c.loop-v.invariant
+    let p = g.P.Play.position c.args.play.now in
+    let end : c.loop-v.v ≡ p.counter.nodes =
+    omega (arith, c.loop-v.auto.v-end, c.loop-v-test.false, c.nodes-v-end.ensures) in
+    writes_is (ap (λ (n : ℕ). words_of n ((g.L.Lines.wording c.args.lines.now).word p.counter
+    p.scene) c.args.faulty.now.ids) end) c.loop-v.invariant

@@ -1,11 +1,11 @@
-use Rattle.texts.specs.Growth.{Wrote}
-use Rattle.run_texts.specs.RunTexts.{word_or_star}
-use Rattle.run_texts.proofs.WordsSoFar.{words_before}
+use Rattle.std.specs.List.{flat_map, range_with_len}
+use Rattle.edge_io.specs.Writing.{Writes}
+use Rattle.machine_runner.specs.RunTexts.{word_or_star}
 use Rattle.layer_lines.proofs.words.put_words.Given as goal
 
 abbrev pub invariant-loop-v : goal.invariant-loop-v
 invariant-loop-v g l =
     let p = g.P.Play.position l.play in
-    Wrote (words_before
+    Writes g.K.Sink.told (flat_map
     (word_or_star ((g.L.Lines.wording l.lines).word p.counter p.scene) l.faulty.ids)
-    p.counter.nodes l.v) (g.K.Sink.told l.fn.sink) (g.K.Sink.told l.sink)
+    (range_with_len 0 l.v)) l.fn.writer l.writer

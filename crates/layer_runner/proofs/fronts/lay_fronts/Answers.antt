@@ -14,7 +14,7 @@ copy_front-requires-clause-state c =
     let lt : c.loop-v.v < length c.args.states.now.current =
     omega (arith, c.loop-v-test.true, c.nodes-v-end.ensures.current) in
     let deep = depth_of_node c.args.states.now.shape c.loop-v.v _
-    (c.tell.ensures.current c.loop-v.v lt) in
+    (c.facts.ensures.current c.loop-v.v lt) in
     let same = ap (λ (s : State). length s.registers) c.state.ensures in
     omega (arith, deep, same, c.requires.count)
 
@@ -41,7 +41,7 @@ loop-v-preserved c =
     omega (arith, c.loop-v-test.true, c.nodes-v-end.ensures.current) in
     let here : c.loop-v.v < length (map (cut count) config) = omega (arith, lt, long) in
     let deep = depth_of_node c.args.states.now.shape c.loop-v.v _
-    (c.tell.ensures.current c.loop-v.v lt) in
+    (c.facts.ensures.current c.loop-v.v lt) in
     let room = deep_at count c.loop-v.fronts c.loop-v.v c.index-fronts-v.result
     c.loop-v.invariant.deep (omega (arith, here, size)) c.index-fronts-v.is in
     let is : c.copy_front.new.out ≡ cut count (state_of config c.loop-v.v) =

@@ -11,7 +11,7 @@ use Rattle.machine_runner.proofs.Laid.{room_laid}
 use Rattle.layer_runner.specs.Counters.{machine_counter}
 use Rattle.layer_runner.specs.ReadOver.{IsReadWithLayer}
 use Rattle.layer_runner.specs.Rooms.{IsLaid}
-use Rattle.layer_runner.proofs.Stepped.{one_stepped, all_states, all_kept}
+use Rattle.layer_laws.proofs.Stepped.{one_stepped, all_states, all_kept}
 use Rattle.layer_runner.proofs.stepping.step_all.Goals as goal
 
 pub loop-v-init : goal.loop-v-init
@@ -23,7 +23,7 @@ loop-v-init g c =
     record {
       stepped = record {
         states = λ u lt. absurd (omega (arith, lt));
-        size = c.tell.ensures.size ∙ c.requires.config.size;
+        size = c.facts.ensures.size ∙ c.requires.config.size;
         same = refl;
         count = refl;
         done = λ u lt. absurd (omega (arith, lt));
@@ -35,7 +35,7 @@ loop-v-init g c =
           below = record {
             noise = ready.below.noise;
             heard = room_laid script c.args.states.now.shape c.args.states.now.current _ laid
-                c.requires.config.shape c.requires.config.size c.tell.ensures.current;
+                c.requires.config.shape c.requires.config.size c.facts.ensures.current;
             work = ready.below.work;
             out = ready.below.out;
           };

@@ -1,7 +1,7 @@
 use Rattle.std.proofs.Common.{◌≡◌}
 use Rattle.layer_runner.specs.Counters.{machine_counter}
 use Rattle.layer_runner.specs.Rooms.{IsLaid}
-use Rattle.layer_runner.proofs.Stepped.{SteppedBelow}
+use Rattle.layer_laws.proofs.Stepped.{SteppedBelow}
 use Rattle.layer_runner.proofs.stepping.step_all.Given as goal
 
 abbrev pub invariant-loop-v : goal.invariant-loop-v

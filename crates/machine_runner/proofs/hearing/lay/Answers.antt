@@ -11,7 +11,7 @@ loop-v-preserved c =
     one_laid c.args.states.now.current _ c.loop-v.v c.loop-v.heard c.old.new.out lt
     c.loop-v.invariant c.old.ensures
     (ap (λ (s : State). length s.registers) c.old.ensures
-    ∙ depth_of_node c.args.states.now.shape c.loop-v.v _ (c.tell.ensures.current c.loop-v.v lt))
+    ∙ depth_of_node c.args.states.now.shape c.loop-v.v _ (c.facts.ensures.current c.loop-v.v lt))
 
 pub returns : goal.returns
 returns c = all_laid c.args.states.now.current _ c.loop-v.v c.loop-v.heard

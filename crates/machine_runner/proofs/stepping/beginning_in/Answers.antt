@@ -1,7 +1,9 @@
 use Rattle.std.proofs.Common.{ap, ◌∙◌, arith}
 use Rattle.adversary_script.specs.Eras.{first_of_era}
 use Rattle.machine_runner.proofs.Firsts.{none_begins, era_within}
-use Rattle.machine_runner.proofs.stepping.beginning_in.Goals.{else-era-gt0-via-then-era-gt0+else-era_start-t}
+use Rattle.machine_runner.proofs.stepping.beginning_in.Goals.{
+  else-era-gt0-via-then-era-gt0+else-era_start-t,
+}
 use Rattle.machine_runner.proofs.stepping.beginning_in.Goals.{else-era-gt0-via-else-era-gt0}
 use Rattle.machine_runner.proofs.stepping.beginning_in.Goals as goal
 

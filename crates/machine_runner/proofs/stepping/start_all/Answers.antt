@@ -4,18 +4,16 @@ use Rattle.sync_types.specs.States.{State}
 use Rattle.state_codec.specs.Packs.{Pack}
 use Rattle.adversary_script.specs.Lies.{start_of}
 use Rattle.adversary_script.proofs.LiesInRange.{depth_of_node}
-use Rattle.machine_runner.specs.declared.stepping.Room.{Room}
 use Rattle.machine_runner.proofs.Filled.{FilledBelow, none_filled, one_filled, all_filled}
 use Rattle.machine_runner.proofs.stepping.start_all.Goals as goal
 
 pub loop-v-init : goal.loop-v-init
 loop-v-init c = record {
   filled = none_filled (start_of c.args.script.now) c.args.script.now.nodes _
-      (c.tell.ensures.size ∙ c.requires.config.size);
+      (c.facts.ensures.size ∙ c.requires.config.size);
   deep = c.requires.out;
   noise = c.requires.noise;
   shape = refl;
-  same = refl;
 }
 
 pub loop-v-preserved : goal.loop-v-preserved
@@ -33,10 +31,6 @@ loop-v-preserved c =
       deep = depth_of_node script.shape c.loop-v.v _ c.start_into.ensures.range;
       noise = c.start_into.ensures.noise ∙ c.loop-v.invariant.noise;
       shape = ap (λ (p : Pack). p.shape) c.put.ensures ∙ c.loop-v.invariant.shape;
-      same = ap (λ (r : Room). let q : Room = record r {
-        noise = c.start_into.new.noise;
-        out = c.start_into.new.out;
-      } in q) c.loop-v.invariant.same;
     }
 
 pub returns-clause-shape : goal.returns-clause-shape

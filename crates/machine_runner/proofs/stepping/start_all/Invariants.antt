@@ -7,8 +7,7 @@ use Rattle.machine_runner.proofs.stepping.start_all.Given as goal
 abbrev pub invariant-loop-v : goal.invariant-loop-v
 invariant-loop-v l = record {
   filled : FilledBelow (start_of l.script) l.script.nodes l.v l.states.next;
-  deep : length l.room.out.registers ≡ l.script.shape.depth;
-  noise : l.room.noise ≡ l.script.key;
+  deep : length l.out.registers ≡ l.script.shape.depth;
+  noise : l.noise ≡ l.script.key;
   shape : l.states.shape ≡ l.fn.states.shape;
-  same : l.room ≡ record l.fn.room { noise = l.room.noise; out = l.room.out };
 }

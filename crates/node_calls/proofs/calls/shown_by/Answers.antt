@@ -7,4 +7,4 @@ pub output-requires-clause-state : goal.output-requires-clause-state
 output-requires-clause-state g c =
     let m = g.M.Machine.machine c.args.machine.now in
     subst (IsState m c.args.id) (sym c.read_state.ensures)
-    (read_is_state m c.tell.ensures c.args.id c.requires c.args.state.now)
+    (read_is_state m c.facts.ensures c.args.id c.requires c.args.state.now)

@@ -50,4 +50,4 @@ pub returns-clause-fits : goal.returns-clause-fits
 returns-clause-fits g c =
     let plans = read_by g.R.LineReader.step c.args.reader c.args.form g.R.PlanReader.shape in
     node_fits plans _ _ _ _ _ c.in-Ok.part.value _ _ c.in_ok-shape.ensures c.new-node_lines.ensures
-    c.tell.ensures _ c.in-Ok-feed_part.ensures.fed
+    c.facts.ensures _ c.in-Ok-feed_part.ensures.fed

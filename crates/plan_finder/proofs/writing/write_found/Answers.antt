@@ -1,9 +1,6 @@
 use Rattle.std.proofs.Common.{rules}
-use Rattle.texts.proofs.Growth.{puts_lent}
+use Rattle.edge_io.proofs.Writing.{writes_all}
 use Rattle.plan_finder.proofs.writing.write_found.Goals as goal
 
 pub returns : goal.returns
-returns g c =
-    puts_lent g.K.Sink.told _ _ _ _ _ _ _ _ (search rules)
-    (c.finish.ensures.puts _ _ (rw c.new-lines.ensures.told at c.put_found-written.ensures))
-    c.finish.ensures.none_held
+returns g c = writes_all c.new-writer.ensures c.put_found.ensures c.finish.ensures (search rules)

@@ -1,20 +1,15 @@
 use Rattle.std.proofs.Common.{arith}
-use Rattle.texts.proofs.Growth.{wrote_none}
-use Rattle.plan_reader.proofs.LevelLines.{wrote_level, cut_level, wrote_levels}
+use Rattle.edge_io.proofs.Writing.{writes_none}
+use Rattle.plan_reader.proofs.LevelLines.{writes_level, writes_levels}
 use Rattle.plan_reader.proofs.tables.put_levels.Goals as goal
 
 pub loop-i-init : goal.loop-i-init
-loop-i-init g c = wrote_none _
-
-pub returns-in-Err : goal.returns-in-Err
-returns-in-Err g c =
-    cut_level c.args.plan.now c.loop-i.i _ c.level.ensures.value _ _ _ c.loop-i.invariant
-    (rw c.version.ensures at c.in-Err.ensures)
+loop-i-init g c = writes_none
 
 pub loop-i-preserved : goal.loop-i-preserved
 loop-i-preserved g c =
-    wrote_level c.args.plan.now c.loop-i.i _ c.level.ensures.value _ _ _ c.loop-i.invariant
-    (rw c.version.ensures at c.in-Ok.ensures)
+    writes_level c.args.plan.now c.loop-i.i _ c.level.ensures.value c.loop-i.invariant
+    (rw c.version.ensures at c.put_level.ensures)
 
 pub returns : goal.returns
-returns g c = wrote_levels c.args.plan.now c.loop-i.i _ _ (omega arith) c.loop-i.invariant
+returns g c = writes_levels c.args.plan.now c.loop-i.i (omega arith) c.loop-i.invariant

@@ -1,7 +1,6 @@
-use Rattle.texts.specs.Growth.{Wrote}
+use Rattle.edge_io.specs.Writing.{Writes}
 use Rattle.plan_reader.proofs.LevelLines.{first_lines}
 use Rattle.plan_reader.proofs.tables.put_levels.Given as goal
 
 abbrev pub invariant-loop-i : goal.invariant-loop-i
-invariant-loop-i g l =
-    Wrote (first_lines l.plan l.i) (g.K.Sink.told l.fn.sink) (g.K.Sink.told l.sink)
+invariant-loop-i g l = Writes g.K.Sink.told (first_lines l.plan l.i) l.fn.writer l.writer

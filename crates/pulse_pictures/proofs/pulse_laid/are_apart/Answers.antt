@@ -1,6 +1,6 @@
 use Rattle.std.proofs.Common.{ℕ, ◌<◌, get_or, arith}
 use Rattle.std.proofs.lemmas.List.{get_or_default}
-use Rattle.pulse_pictures.specs.declared.pulse_notes.Stand.{Stand}
+use Rattle.pulse_pictures.specs.declared.pulse_notes.GroupInstruction.{GroupInstruction}
 use Rattle.pulse_pictures.proofs.StandsApart.{apart_more, most_more}
 use Rattle.pulse_pictures.proofs.pulse_laid.are_apart.Goals as goal
 use Rattle.pulse_pictures.proofs.pulse_laid.are_apart.Goals.{then-stand-column-2}
@@ -15,7 +15,8 @@ loop-k-preserved c =
     let column = c.if-stand-column-2.column in
     let most = most_more stands k _ (λ d. get_or_default stands k _ d c.loop-k-test.true)
     c.loop-k.column c.if-stand-column.false before.most in
-    let early : (j : ℕ) (d : Stand) → j < from → (get_or stands j d).column < column = λ j d less.
+    let early : (j : ℕ) (d : GroupInstruction) → j < from
+    → (get_or stands j d).column < column = λ j d less.
     elim c.if-stand-column-2.branch [
       | then-stand-column-2 w ↦
           let here : j < k = omega (arith, less, w.from-is) in

@@ -6,7 +6,7 @@ use Rattle.pulse_plan.proofs.bits.+bits_in.Goals as goal
 
 pub returns-then-faults-eq0-clause-most : goal.returns-then-faults-eq0-clause-most
 returns-then-faults-eq0-clause-most t c =
-    let most = c.tell.ensures.most_modulus in
+    let most = c.facts.ensures.most_modulus in
     let few = c.width.ensures.least 40 (omega (arith, most)) in omega (arith, few)
 
 pub returns-clause-value : goal.returns-clause-value
@@ -20,5 +20,5 @@ returns-clause-value t c =
       c.level_bits.ensures.value,
       c.bits_in-left.ensures.value,
       c.bits_in-right.ensures.value,
-      bits_by_level c.args.group.now c.tell.ensures some,
+      bits_by_level c.args.group.now c.facts.ensures some,
     )

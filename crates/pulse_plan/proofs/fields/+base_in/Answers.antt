@@ -12,7 +12,7 @@ returns-in-Some t c =
     c.base_in.ensures
     ∙ (ap (λ (o : Option PulseGroup). (fields_in_half o v).base) c.in-Some.ensures.value
     ∙ sym (ap (λ (f : Fields). f.base)
-    (fields_by_level g v c.tell.ensures some c.requires)))
+    (fields_by_level g v c.facts.ensures some c.requires)))
 
 pub returns-in-None : goal.returns-in-None
 returns-in-None t c =
@@ -21,4 +21,4 @@ returns-in-None t c =
     let some : 0 < g.faults = omega arith in
     ap (λ (o : Option PulseGroup). (fields_in_half o v).base) c.in-None.ensures.value
     ∙ sym (ap (λ (f : Fields). f.base)
-    (fields_by_level g v c.tell.ensures some c.requires))
+    (fields_by_level g v c.facts.ensures some c.requires))

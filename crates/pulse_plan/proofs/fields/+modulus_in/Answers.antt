@@ -31,7 +31,7 @@ returns-in-1 t c =
     let v = c.args.node in
     let some : 0 < g.faults = omega arith in
     ap Some c.instructions.ensures
-    ∙ sym (level_modulus g v c.args.i c.tell.ensures some c.requires
+    ∙ sym (level_modulus g v c.args.i c.facts.ensures some c.requires
     ∙ ap (slice_get (with_level g.faults g.modulus (fields_in_half (half_in g v) v)).moduli)
     c.in-1.is)
 
@@ -41,7 +41,7 @@ returns-in-2 t c =
     let v = c.args.node in
     let some : 0 < g.faults = omega arith in
     ap Some c.left_period.ensures
-    ∙ sym (level_modulus g v c.args.i c.tell.ensures some c.requires
+    ∙ sym (level_modulus g v c.args.i c.facts.ensures some c.requires
     ∙ ap (slice_get (with_level g.faults g.modulus (fields_in_half (half_in g v) v)).moduli)
     c.in-2.is)
 
@@ -51,7 +51,7 @@ returns-in-3 t c =
     let v = c.args.node in
     let some : 0 < g.faults = omega arith in
     refl
-    ∙ sym (level_modulus g v c.args.i c.tell.ensures some c.requires
+    ∙ sym (level_modulus g v c.args.i c.facts.ensures some c.requires
     ∙ ap (slice_get (with_level g.faults g.modulus (fields_in_half (half_in g v) v)).moduli)
     c.in-3.is)
 
@@ -63,7 +63,7 @@ returns-in-Some t c =
     c.modulus_in.ensures
     ∙ (ap (λ (o : Option PulseGroup). slice_get (fields_in_half o v).moduli (c.args.i - 4))
     c.in-Some.ensures.value
-    ∙ sym (half_modulus g v c.args.i c.tell.ensures some c.requires (omega arith)))
+    ∙ sym (half_modulus g v c.args.i c.facts.ensures some c.requires (omega arith)))
 
 pub returns-in-None : goal.returns-in-None
 returns-in-None t c =
@@ -72,4 +72,4 @@ returns-in-None t c =
     let some : 0 < g.faults = omega arith in
     ap (λ (o : Option PulseGroup). slice_get (fields_in_half o v).moduli (c.args.i - 4))
     c.in-None.ensures.value
-    ∙ sym (half_modulus g v c.args.i c.tell.ensures some c.requires (omega arith))
+    ∙ sym (half_modulus g v c.args.i c.facts.ensures some c.requires (omega arith))

@@ -8,7 +8,7 @@ new-requires-clause-limits c =
     subst IsFields
     (sym (ap₂ (λ (x : ℕ) (ms : List ℕ). let f : Fields = record { base = x; moduli = ms } in f)
     c.base.ensures.value c.in_ok-moduli.ensures))
-    (further_limited c.args.own.now c.args.values c.args.count c.requires.most c.tell.ensures)
+    (further_limited c.args.own.now c.args.values c.args.count c.requires.most c.facts.ensures)
 
 pub new-requires-clause-few : goal.new-requires-clause-few
 new-requires-clause-few c =

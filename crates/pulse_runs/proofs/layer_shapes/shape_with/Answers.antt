@@ -3,10 +3,10 @@ use Rattle.std.proofs.Common.{sym, ◌∙◌, subst, arith}
 use Rattle.std.proofs.lemmas.Result.{IfOk-weaker}
 use Rattle.state_codec.specs.Shapes.{Fields, IsShape, bits_in, with_further}
 use Rattle.state_codec.proofs.Lows.{made_more}
-use Rattle.pulse_machine.proofs.Bits.{few_bits}
+use Rattle.pulse_plan.proofs.FewBits.{few_bits}
 use Rattle.pulse_plan.specs.Runs.{all_fields}
 use Rattle.pulse_plan.specs.Plans.{tree_of}
-use Rattle.pulse_nodes.proofs.Shaped.{deep}
+use Rattle.pulse_texts.proofs.Shaped.{deep}
 use Rattle.pulse_runs.specs.LayerShapes.{shape_with}
 use Rattle.pulse_runs.proofs.LayerShaped as law
 use Rattle.pulse_runs.proofs.layer_shapes.shape_with.Goals as goal
@@ -17,7 +17,7 @@ fields_with-requires-clause-depth c =
     let own = law.own_is plan c.in_ok-own.own.items c.in_ok-own.ensures c.loop-v.v
     c.index.result.now (omega (arith, c.loop-v-test.true, c.len-v-end.ensures)) c.index.ensures in
     ap (λ (f : Fields). length f.moduli) own.1
-    ∙ deep plan c.tell.ensures c.loop-v.v own.0 ∙ sym c.depth-depth.ensures
+    ∙ deep plan c.facts.ensures c.loop-v.v own.0 ∙ sym c.depth-depth.ensures
 
 pub fields_with-requires-clause-small : goal.fields_with-requires-clause-small
 fields_with-requires-clause-small c =
@@ -25,7 +25,7 @@ fields_with-requires-clause-small c =
     let own = law.own_is plan c.in_ok-own.own.items c.in_ok-own.ensures c.loop-v.v
     c.index.result.now (omega (arith, c.loop-v-test.true, c.len-v-end.ensures)) c.index.ensures in
     subst (λ (f : Fields). bits_in f ≤ 715) (sym own.1)
-    (few_bits plan c.tell.ensures c.loop-v.v)
+    (few_bits plan c.facts.ensures c.loop-v.v)
 
 pub loop-v-preserved : goal.loop-v-preserved
 loop-v-preserved c =
@@ -43,7 +43,7 @@ loop-v-preserved c =
 pub by_node-requires-clause-few : goal.by_node-requires-clause-few
 by_node-requires-clause-few c =
     let plan = c.args.plan.now in
-    let most = c.tell.ensures.most_nodes in
+    let most = c.facts.ensures.most_nodes in
     let made = law.all_made plan c.args.values c.args.count c.loop-v.v c.len-v-end.result
     c.in_ok-own.own.items c.loop-v.fields.items c.in_ok-own.ensures
     (omega (arith, c.len-v-end.ensures))
@@ -51,7 +51,7 @@ by_node-requires-clause-few c =
     omega (
       arith,
       ap (λ (fs : List Fields). length fs) (c.deref.ensures.value ∙ made),
-      law.nodes_are plan c.tell.ensures c.args.values c.args.count c.requires.least
+      law.nodes_are plan c.facts.ensures c.args.values c.args.count c.requires.least
           c.requires.most,
       most,
     )
@@ -68,7 +68,7 @@ by_node-requires-clause-deep c =
     (sym (c.deref.ensures.value ∙ made))
     (subst (λ (n : ℕ). All (λ (f : Fields). length f.moduli ≡ n + c.args.count)
     (shape_with plan c.args.values c.args.count).fields) (sym c.depth-depth.ensures)
-    (law.all_deep plan c.tell.ensures c.args.values c.args.count c.requires.least
+    (law.all_deep plan c.facts.ensures c.args.values c.args.count c.requires.least
     c.requires.most))
 
 pub by_node-requires-clause-shape : goal.by_node-requires-clause-shape
@@ -81,7 +81,7 @@ by_node-requires-clause-shape c =
     subst IsShape
     (sym (ap₂ (λ (n : ℕ) (fs : List Fields). record { depth = n + c.args.count; fields = fs })
     c.depth-depth.ensures (c.deref.ensures.value ∙ made)))
-    (law.is_shape plan c.tell.ensures c.args.values c.args.count c.requires.least
+    (law.is_shape plan c.facts.ensures c.args.values c.args.count c.requires.least
     c.requires.most)
 
 pub returns : goal.returns

@@ -6,10 +6,10 @@ use Rattle.pulse_runs.proofs.reading.numbers_of.Goals as goal
 pub new-requires : goal.new-requires
 new-requires c =
     rw (c.nodes.ensures, c.faults.ensures, c.modulus.ensures, c.depth.ensures)
-    (subst AreNumbers (same_numbers c.args.plan.now c.tell.ensures)
-    (are_numbers c.args.plan.now c.tell.ensures))
+    (subst AreNumbers (same_numbers c.args.plan.now c.facts.ensures)
+    (are_numbers c.args.plan.now c.facts.ensures))
 
 pub returns : goal.returns
 returns c =
     rw (c.new.ensures, c.nodes.ensures, c.faults.ensures, c.modulus.ensures, c.depth.ensures)
-    (sym (same_numbers c.args.plan.now c.tell.ensures))
+    (sym (same_numbers c.args.plan.now c.facts.ensures))

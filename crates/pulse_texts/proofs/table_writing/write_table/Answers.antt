@@ -5,5 +5,6 @@ use Rattle.pulse_texts.proofs.table_writing.write_table.Goals as goal
 pub returns : goal.returns
 returns g c =
     puts_lent g.K.Sink.told _ _ _ _ _ _ _ _ (search rules)
-    (c.finish.ensures.puts _ _ (rw c.new-lines.ensures.told at c.put_table-written.ensures))
-    c.finish.ensures.none_held
+    (c.finish_with.ensures.puts _ _ (rw c.gathering-lines.ensures.told at
+    c.put_table-written.ensures))
+    c.finish_with.ensures.none_held

@@ -7,13 +7,13 @@ use Rattle.state_codec.specs.Packs.{Pack}
 use Rattle.state_codec.specs.Shapes.{fields_at, shape_nodes}
 use Rattle.adversary_script.specs.Lies.{shifted}
 use Rattle.adversary_script.proofs.LiesInRange.{depth_of_node}
-use Rattle.round_runner.proofs.Places.{set_has}
+use Rattle.machine_runner.proofs.Places.{set_has}
 use Rattle.round_runner.proofs.growing.grow.Goals as goal
 
 pub loop-v-init : goal.loop-v-init
 loop-v-init c = record {
   fixed = refl;
-  size = c.tell.ensures.size;
+  size = c.facts.ensures.size;
   depth = refl;
   filled = λ u lt. absurd (omega arith);
 }
@@ -21,7 +21,7 @@ loop-v-init c = record {
 pub shift_into-requires-clause-node : goal.shift_into-requires-clause-node
 shift_into-requires-clause-node c =
     let nodes = ap (λ (p : Pack). shape_nodes p.shape) c.loop-v.invariant.fixed in
-    omega (arith, nodes, c.tell.ensures.few, c.loop-v-test.true, c.nodes-v-end.ensures.current)
+    omega (arith, nodes, c.facts.ensures.few, c.loop-v-test.true, c.nodes-v-end.ensures.current)
 
 pub shift_into-requires-clause-from : goal.shift_into-requires-clause-from
 shift_into-requires-clause-from c =

@@ -19,7 +19,7 @@ returns-then-contains-clause-room c =
     room_laid script c.args.turn.now.v c.args.heard.now c.old.new.out c.requires.room
     (depth_of_node script.shape c.args.turn.now.v _ (read_range c.args.turn.now.states.now.shape
     script.shape config
-    c.args.turn.now.v c.old.new.out c.args.turn.now.shape (c.tell.ensures.current c.args.turn.now.v
+    c.args.turn.now.v c.old.new.out c.args.turn.now.shape (c.facts.ensures.current c.args.turn.now.v
     lt)
     c.old.ensures))
 
@@ -40,7 +40,7 @@ returns-then-contains-clause-laid c =
       inside = c.args.turn.now.node;
       range = read_range c.args.turn.now.states.now.shape script.shape config c.args.turn.now.v
           c.old.new.out
-          c.args.turn.now.shape (c.tell.ensures.current c.args.turn.now.v lt) c.old.ensures;
+          c.args.turn.now.shape (c.facts.ensures.current c.args.turn.now.v lt) c.old.ensures;
     })
 
 pub returns-then-contains-clause-own : goal.returns-then-contains-clause-own

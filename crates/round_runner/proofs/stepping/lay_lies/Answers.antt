@@ -4,7 +4,7 @@ use Rattle.sync_types.specs.States.{State}
 use Rattle.adversary_script.proofs.LiesInRange.{depth_of_node}
 use Rattle.round_runner.specs.Hearing.{IsOfSome}
 use Rattle.round_runner.proofs.FewLie.{few_lie}
-use Rattle.round_runner.proofs.Places.{read_at}
+use Rattle.machine_runner.proofs.Places.{read_at}
 use Rattle.round_runner.proofs.LiesLaid.{one_laid, all_laid}
 use Rattle.round_runner.proofs.stepping.lay_lies.Goals as goal
 
@@ -34,7 +34,7 @@ loop-j-preserved c =
     one_laid script.shape.depth c.args.round.now.faulty.now.ids c.args.stretch.0
     c.args.stretch.1
     c.args.lies.now c.args.heard.now
-    c.tell.ensures.rising c.loop-j.j c.at.result c.loop-j.heard c.copy_from.new.self
+    c.facts.ensures.rising c.loop-j.j c.at.result c.loop-j.heard c.copy_from.new.self
     lt ids (omega (arith, c.at.ensures.node, nodes, size))
     (sym c.at.ensures.id) c.loop-j.invariant (c.copy_from.ensures
     ∙ read_at c.args.lies.now c.loop-j.j c.index-lies-j.result lies c.index-lies-j.is)

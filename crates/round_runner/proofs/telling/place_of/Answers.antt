@@ -1,5 +1,5 @@
 use Rattle.std.proofs.Common.{arith}
-use Rattle.round_runner.proofs.Heard.{place_of}
+use Rattle.counter_core.proofs.Heeded.{place_of}
 use Rattle.round_runner.proofs.telling.place_of.Goals as goal
 
 -- past the last place none of them is v

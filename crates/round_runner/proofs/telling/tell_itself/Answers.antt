@@ -20,7 +20,7 @@ returns-then-contains-clause-own c =
     let size = c.requires.size in
     let room : length ids ≤ length c.args.lies.now = omega (arith, few, size) in
     own_stands ids c.args.turn.now.v c.args.turn.now.states.now.current c.args.lies.now
-    c.place_of-own.result c.old.new.out c.tell.ensures.rising c.place_of-own.ensures.within
+    c.place_of-own.result c.old.new.out c.facts.ensures.rising c.place_of-own.ensures.within
     room c.place_of-own.ensures.id c.old.ensures
 
 pub returns-else-contains-clause-own : goal.returns-else-contains-clause-own

@@ -1,44 +1,35 @@
-use Rattle.std.proofs.Common.{refl, sym, ◌∙◌, subst, arith}
-use Rattle.texts.specs.Growth.{Wrote, Cut}
+use Rattle.std.proofs.Common.{◌≡◌, ℕ, List, refl, sym, ap, ◌∙◌, subst, arith}
+use Rattle.std.specs.List.{flat_map, range_with_len}
+use Rattle.construction.specs.Plans.{plan_nodes}
 use Rattle.counter_core.specs.declared.overlays.NoOverlay.{NoOverlay}
+use Rattle.edge_io.proofs.Writing.{writes_none, writes_next, writes_is}
 use Rattle.round_runner.specs.Runners.{Running}
 use Rattle.run_checker.specs.Playing.{HasLiar}
 use Rattle.run_checker.specs.RunLines.{lie_if}
-use Rattle.texts.proofs.Growth.{wrote_none}
-use Rattle.construction.specs.Plans.{plan_nodes}
-use Rattle.run_checker.proofs.WordsBefore.{words_more, words_cut, words_all}
 use Rattle.run_checker.proofs.lie_lines.put_lies_from.Goals as goal
 
 pub loop-v-init : goal.loop-v-init
-loop-v-init g c = record { same = refl; wrote = wrote_none _ }
-
-pub returns-in-Err-clause-text : goal.returns-in-Err-clause-text
-returns-in-Err-clause-text g c =
-    words_cut _ (plan_nodes c.args.runner.now.plan) c.loop-v.v _ _ _
-    (omega (arith, c.loop-v-test.true, c.nodes-v-end.ensures))
-    c.loop-v.invariant.wrote
-    (subst
-    (λ (r : Running NoOverlay). Cut (lie_if r.script r.at r.states c.args.u c.loop-v.v)
-    (g.K.Sink.told c.loop-v.sink) (g.K.Sink.told c.put_lie_if.new.sink))
-    c.loop-v.invariant.same c.in-Err.ensures.text)
+loop-v-init g c = record { same = refl; wrote = writes_none }
 
 pub loop-v-preserved : goal.loop-v-preserved
-loop-v-preserved g c = record {
-  same = c.in-Ok.ensures.same ∙ c.loop-v.invariant.same;
-  wrote =
-      words_more _ (plan_nodes c.args.runner.now.plan) c.loop-v.v _ _ _
-      (omega (arith, c.loop-v-test.true, c.nodes-v-end.ensures))
-      c.loop-v.invariant.wrote
-      (subst
-      (λ (r : Running NoOverlay). Wrote (lie_if r.script r.at r.states c.args.u c.loop-v.v)
-      (g.K.Sink.told c.loop-v.sink) (g.K.Sink.told c.put_lie_if.new.sink))
-      c.loop-v.invariant.same c.in-Ok.ensures.text);
-}
+loop-v-preserved g c =
+    let r = c.args.runner.now in
+    let is = ap (λ (x : Running NoOverlay).
+    lie_if x.script x.at x.states c.args.u c.loop-v.v) c.loop-v.invariant.same in
+    record {
+      same = c.put_lie_if.ensures.same ∙ c.loop-v.invariant.same;
+      wrote = writes_next (lie_if r.script r.at r.states c.args.u) 0 c.loop-v.v c.loop-v.v
+          c.loop-v.invariant.wrote
+          (writes_is is c.put_lie_if.ensures.text) (omega arith);
+    }
 
 pub returns-clause-text : goal.returns-clause-text
 returns-clause-text g c =
-    words_all _ (plan_nodes c.args.runner.now.plan) c.loop-v.v _ _
-    (omega (arith, c.loop-v-test.false, c.nodes-v-end.ensures)) c.loop-v.invariant.wrote
+    let r = c.args.runner.now in
+    let word : ℕ → List ℕ = lie_if r.script r.at r.states c.args.u in
+    let end : c.loop-v.v ≡ plan_nodes r.plan =
+    omega (arith, c.loop-v-test.false, c.loop-v.auto.v-end, c.nodes-v-end.ensures) in
+    writes_is (ap (λ (n : ℕ). flat_map word (range_with_len 0 n)) end) c.loop-v.invariant.wrote
 
 pub put_lie_if-requires-clause-liar : goal.put_lie_if-requires-clause-liar
 put_lie_if-requires-clause-liar g c =

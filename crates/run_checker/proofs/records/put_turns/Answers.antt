@@ -1,36 +1,41 @@
-use Rattle.std.proofs.Common.{refl, ap, ◌∙◌, arith}
+use Rattle.std.proofs.Common.{refl, sym, ap, ◌∙◌, arith}
 use Rattle.adversary_script.specs.Scripts.{Script}
-use Rattle.run_checker.proofs.Recording.{turns_begin, turns_go_on, turns_cut, turns_end}
+use Rattle.run_checker.proofs.Recording.{turns_begin, turns_go_on, turns_fail, turns_end}
 use Rattle.run_checker.proofs.Recording.{turns_stopped, turns_played}
+use Rattle.std.proofs.lemmas.Bool.{true≢false}
 use Rattle.run_checker.proofs.records.put_turns.Goals as goal
 
 pub loop-init : goal.loop-init
-loop-init g c = turns_begin c.args.runner.now _ c.requires.start c.requires.plays
+loop-init g c = turns_begin c.args.runner.now c.requires.start c.requires.plays
 
-pub returns-in-Err-clause-text : goal.returns-in-Err-clause-text
-returns-in-Err-clause-text g c =
-    let rounds = c.rounds-rounds.ensures.value ∙ ap (λ (s : Script). s.rounds) c.script.ensures in
-    turns_cut _ _ _ _ _ _ c.loop.invariant _ (omega (arith, c.loop-test.true, rounds))
-    c.in-Err.ensures.text
+pub returns-then-has_failed-clause-text : goal.returns-then-has_failed-clause-text
+returns-then-has_failed-clause-text g c =
+    turns_fail c.loop.invariant (sym c.has_failed.ensures ∙ c.if-has_failed.true)
+
+pub returns-then-has_failed-clause-played : goal.returns-then-has_failed-clause-played
+returns-then-has_failed-clause-played g c = λ not.
+    absurd (true≢false (sym c.if-has_failed.true ∙ c.has_failed.ensures ∙ not))
+
+pub returns-then-has_failed-clause-stopped : goal.returns-then-has_failed-clause-stopped
+returns-then-has_failed-clause-stopped g c =
+    turns_stopped c.loop.invariant c.args.runner.now refl refl
 
 pub loop-preserved : goal.loop-preserved
 loop-preserved g c =
     let rounds = c.rounds-rounds.ensures.value ∙ ap (λ (s : Script). s.rounds) c.script.ensures in
-    turns_go_on _ _ _ _ _ _ c.loop.invariant _ _ (omega (arith, c.loop-test.true, rounds))
-    c.in-Ok.ensures.text c.in-Ok.ensures.played
+    turns_go_on c.loop.invariant (omega (arith, c.loop-test.true, rounds))
+    c.put_turn.ensures.text c.put_turn.ensures.played
 
 pub returns-clause-text : goal.returns-clause-text
 returns-clause-text g c =
     let rounds = c.rounds-rounds.ensures.value ∙ ap (λ (s : Script). s.rounds) c.script.ensures in
-    turns_end _ _ _ _ _ _ c.loop.invariant (omega (arith, c.loop-test.false, rounds))
-
-pub returns-in-Err-clause-stopped : goal.returns-in-Err-clause-stopped
-returns-in-Err-clause-stopped g c =
-    turns_stopped _ _ _ _ _ _ c.loop.invariant c.args.runner.now refl refl _
-    c.in-Err.ensures.stopped
+    turns_end c.loop.invariant (omega (arith, c.loop-test.false, rounds))
 
 pub returns-clause-played : goal.returns-clause-played
-returns-clause-played g c =
+returns-clause-played g c = λ not.
     let rounds = c.rounds-rounds.ensures.value ∙ ap (λ (s : Script). s.rounds) c.script.ensures in
-    turns_played _ _ _ _ _ _ c.loop.invariant c.args.runner.now refl refl
+    turns_played c.loop.invariant c.args.runner.now refl refl
     (omega (arith, c.loop-test.false, rounds))
+
+pub returns-clause-stopped : goal.returns-clause-stopped
+returns-clause-stopped g c = turns_stopped c.loop.invariant c.args.runner.now refl refl

@@ -1,19 +1,5 @@
-use Rattle.texts.proofs.Growth.{cut_then, cut_more, puts_then, puts_exit}
-use Rattle.run_checker.specs.RunLines.{era_front, ids_text}
+use Rattle.edge_io.proofs.Writing.{writes_then}
 use Rattle.run_checker.proofs.row_lines.put_era.Goals as goal
 
-pub returns-in_err-put_pieces : goal.returns-in_err-put_pieces
-returns-in_err-put_pieces g c =
-    puts_exit _ _ _ _ _ c.from_residual.ensures.1
-    (cut_more _ _ (era_front c.args.t) _ c.in_err-put_pieces.ensures)
-
-pub returns-in_err-put_ids : goal.returns-in_err-put_ids
-returns-in_err-put_ids g c =
-    puts_exit _ _ _ _ _ c.from_residual-in_err-put_ids.ensures.1
-    (cut_then _ _ _ (era_front c.args.t) _ c.in_ok-put_pieces.ensures
-    (cut_more _ _ (ids_text c.args.faulty.now.ids) _ c.in_err-put_ids.ensures))
-
 pub returns : goal.returns
-returns g c =
-    puts_then _ _ _ _ (era_front c.args.t) _ c.in_ok-put_pieces.ensures
-    (puts_then _ _ _ _ (ids_text c.args.faulty.now.ids) _ c.in_ok-put_ids.ensures c.put_all.ensures)
+returns g c = writes_then c.pieces.ensures (writes_then c.put_ids.ensures c.text.ensures)

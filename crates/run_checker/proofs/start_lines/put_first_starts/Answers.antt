@@ -1,44 +1,35 @@
-use Rattle.std.proofs.Common.{◌<◌, refl, sym, ◌∙◌, subst, arith}
-use Rattle.texts.specs.Growth.{Wrote, Cut}
-use Rattle.counter_core.specs.declared.overlays.NoOverlay.{NoOverlay}
-use Rattle.round_runner.specs.Runners.{Running}
-use Rattle.run_checker.specs.RunLines.{first_start}
-use Rattle.texts.proofs.Growth.{wrote_none}
+use Rattle.std.proofs.Common.{◌≡◌, ℕ, ◌<◌, List, refl, sym, ap, ◌∙◌, subst, arith}
+use Rattle.std.specs.List.{flat_map, range_with_len}
 use Rattle.construction.specs.Plans.{plan_nodes}
+use Rattle.counter_core.specs.declared.overlays.NoOverlay.{NoOverlay}
+use Rattle.edge_io.proofs.Writing.{writes_none, writes_next, writes_is}
+use Rattle.round_runner.specs.Runners.{Running}
 use Rattle.run_checker.specs.Playing.{HasNode}
-use Rattle.run_checker.proofs.WordsBefore.{words_more, words_cut, words_all}
+use Rattle.run_checker.specs.RunLines.{first_start}
 use Rattle.run_checker.proofs.start_lines.put_first_starts.Goals as goal
 
 pub loop-v-init : goal.loop-v-init
-loop-v-init g c = record { same = refl; wrote = wrote_none _ }
-
-pub returns-in-Err-clause-text : goal.returns-in-Err-clause-text
-returns-in-Err-clause-text g c =
-    words_cut _ (plan_nodes c.args.runner.now.plan) c.loop-v.v _ _ _
-    (omega (arith, c.loop-v-test.true, c.nodes-v-end.ensures))
-    c.loop-v.invariant.wrote
-    (subst
-    (λ (r : Running NoOverlay). Cut (first_start r.script r.states c.loop-v.v)
-    (g.K.Sink.told c.loop-v.sink) (g.K.Sink.told c.put_first_start.new.sink))
-    c.loop-v.invariant.same c.in-Err.ensures.text)
+loop-v-init g c = record { same = refl; wrote = writes_none }
 
 pub loop-v-preserved : goal.loop-v-preserved
-loop-v-preserved g c = record {
-  same = c.in-Ok.ensures.same ∙ c.loop-v.invariant.same;
-  wrote =
-      words_more _ (plan_nodes c.args.runner.now.plan) c.loop-v.v _ _ _
-      (omega (arith, c.loop-v-test.true, c.nodes-v-end.ensures))
-      c.loop-v.invariant.wrote
-      (subst
-      (λ (r : Running NoOverlay). Wrote (first_start r.script r.states c.loop-v.v)
-      (g.K.Sink.told c.loop-v.sink) (g.K.Sink.told c.put_first_start.new.sink))
-      c.loop-v.invariant.same c.in-Ok.ensures.text);
-}
+loop-v-preserved g c =
+    let r = c.args.runner.now in
+    let is = ap (λ (x : Running NoOverlay).
+    first_start x.script x.states c.loop-v.v) c.loop-v.invariant.same in
+    record {
+      same = c.put_first_start.ensures.same ∙ c.loop-v.invariant.same;
+      wrote = writes_next (first_start r.script r.states) 0 c.loop-v.v c.loop-v.v
+          c.loop-v.invariant.wrote
+          (writes_is is c.put_first_start.ensures.text) (omega arith);
+    }
 
 pub returns-clause-text : goal.returns-clause-text
 returns-clause-text g c =
-    words_all _ (plan_nodes c.args.runner.now.plan) c.loop-v.v _ _
-    (omega (arith, c.loop-v-test.false, c.nodes-v-end.ensures)) c.loop-v.invariant.wrote
+    let r = c.args.runner.now in
+    let word : ℕ → List ℕ = first_start r.script r.states in
+    let end : c.loop-v.v ≡ plan_nodes r.plan =
+    omega (arith, c.loop-v-test.false, c.loop-v.auto.v-end, c.nodes-v-end.ensures) in
+    writes_is (ap (λ (n : ℕ). flat_map word (range_with_len 0 n)) end) c.loop-v.invariant.wrote
 
 pub put_first_start-requires : goal.put_first_start-requires
 put_first_start-requires g c =

@@ -10,14 +10,14 @@ returns-then-not-is_put-clause-text g c =
     let plan = c.args.runner.now.plan in
     let is = c.is_put.ensures plan
     ∙ ap (λ (s : Script). is_put plan s c.args.t c.args.v) c.script.ensures in
-    not_stated _ _ _ (sym is ∙ c.if-not-is_put.true)
+    not_stated _ (sym is ∙ c.if-not-is_put.true)
 
 pub returns-clause-text : goal.returns-clause-text
 returns-clause-text g c =
     let plan = c.args.runner.now.plan in
     let is = c.is_put.ensures plan
     ∙ ap (λ (s : Script). is_put plan s c.args.t c.args.v) c.script.ensures in
-    stated _ _ _ _ _ (sym is ∙ c.if-not-is_put.false) c.put_start.ensures.text
+    stated (sym is ∙ c.if-not-is_put.false) c.put_start.ensures.text
 
 pub is_put-requires : goal.is_put-requires
 is_put-requires g c =

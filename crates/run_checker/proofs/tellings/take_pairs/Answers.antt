@@ -42,4 +42,4 @@ returns-clause-senders c =
     (correct_nodes c.args.faulty.now.nodes c.args.faulty.now.ids)
     (take c.loop-i.i c.args.faulty.now.ids)
     (All-take (λ id. id < c.args.faulty.now.nodes) c.loop-i.i c.args.faulty.now.ids
-    c.tell.ensures.below))
+    c.facts.ensures.below))

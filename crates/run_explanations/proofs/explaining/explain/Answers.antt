@@ -16,5 +16,5 @@ returns-clause-value c =
 pub returns-clause-first : goal.returns-clause-first
 returns-clause-first c =
     subst (IsFirstOrNone c.args.plan.now c.args.runner.now.script) (sym (returns-clause-value c))
-    (c.found_is_first.ensures c.args.plan.now c.args.runner.now.script c.tell.ensures.accepted
+    (c.found_is_first.ensures c.args.plan.now c.args.runner.now.script c.facts.ensures.accepted
     c.requires.level)

@@ -1,7 +1,7 @@
 use Rattle.std.proofs.Common.{Option, length, ap, ◌∙◌, arith}
 use Rattle.adversary_script.specs.Eras.{faulty_of_era}
 use Rattle.adversary_script.specs.Scripts.{Script}
-use Rattle.run_explanations.specs.declared.seeing.Seen.{Seen}
+use Rattle.run_explanations.specs.declared.seeing.Observation.{Observation}
 use Rattle.run_explanations.specs.Searching.{stretched}
 use Rattle.run_explanations.proofs.Taking.{seen_is}
 use Rattle.run_explanations.proofs.explaining.next_stretch.Goals as goal
@@ -23,7 +23,7 @@ pub returns : goal.returns
 returns c =
     let r = c.args.runner.now in
     c.stretched.ensures
-    ∙ ap (λ (o : Option Seen). stretched c.args.top.numbers.beat c.args.stretch o)
+    ∙ ap (λ (o : Option Observation). stretched c.args.top.numbers.beat c.args.stretch o)
     (seen_is c.args.top.numbers r c.requires.read _ _ c.see.ensures
     (c.last_faulty-faulty.ensures
     ∙ ap (λ (s : Script). faulty_of_era s (length s.eras)) c.script-script.ensures)

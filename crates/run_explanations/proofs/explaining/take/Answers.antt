@@ -1,7 +1,7 @@
 use Rattle.std.proofs.Common.{length, arith, ap, ◌∙◌}
 use Rattle.adversary_script.specs.Eras.{faulty_of_era}
 use Rattle.adversary_script.specs.Scripts.{Script}
-use Rattle.run_explanations.specs.declared.searching.Stretch.{Stretch}
+use Rattle.run_explanations.specs.declared.searching.LeaderStreak.{LeaderStreak}
 use Rattle.run_explanations.specs.Explanations.{seen_at}
 use Rattle.run_explanations.proofs.Taking.{stretched_most, taken_known, taken_new}
 use Rattle.run_explanations.proofs.explaining.take.Goals as goal
@@ -30,7 +30,7 @@ explained_from-found-requires-clause-within c =
     let r = c.args.runner.now in
     let most = stretched_most c.args.top.numbers.beat c.args.search.stretch
     (seen_at r.plan r.script r.at) in
-    let count = ap (λ (s : Stretch). s.count) c.next_stretch-stretch.ensures in
+    let count = ap (λ (s : LeaderStreak). s.count) c.next_stretch-stretch.ensures in
     omega (arith, most, count, c.requires.few, c.at.ensures)
 
 pub returns : goal.returns

@@ -1,21 +1,20 @@
-use Rattle.std.proofs.Common.{arith}
-use Rattle.texts.proofs.Growth.{wrote_none}
-use Rattle.run_texts.proofs.WordsSoFar.{words_more, words_cut, words_all}
+use Rattle.std.proofs.Common.{◌≡◌, ℕ, ap, arith}
+use Rattle.std.specs.List.{flat_map, range_with_len}
+use Rattle.edge_io.proofs.Writing.{writes_none, writes_next, writes_is}
+use Rattle.run_lines.specs.RunTexts.{word_or_star}
 use Rattle.run_lines.proofs.counted.put_words_at.Goals as goal
 
 pub loop-v-init : goal.loop-v-init
-loop-v-init g c = wrote_none _
-
-pub returns-in-Err : goal.returns-in-Err
-returns-in-Err g c = words_cut _ c.args.nodes c.loop-v.v _ _ _
-    (omega (arith, c.loop-v-test.true)) c.loop-v.invariant
-    c.in-Err.ensures
+loop-v-init g c = writes_none
 
 pub loop-v-preserved : goal.loop-v-preserved
-loop-v-preserved g c = words_more _ c.args.nodes c.loop-v.v _ _ _
-    (omega (arith, c.loop-v-test.true)) c.loop-v.invariant
-    c.in-Ok.ensures
+loop-v-preserved g c =
+    writes_next _ 0 c.loop-v.v c.loop-v.v c.loop-v.invariant c.put_word_at.ensures (omega arith)
 
 pub returns : goal.returns
-returns g c = words_all _ c.args.nodes c.loop-v.v _ _
-    (omega (arith, c.loop-v-test.false)) c.loop-v.invariant
+returns g c =
+    let all : c.loop-v.v ≡ c.args.nodes =
+    omega (arith, c.loop-v-test.false, c.loop-v.auto.v-end) in
+    writes_is (ap (λ (n : ℕ). flat_map (word_or_star
+    (g.L.OutputLines.word_at c.args.lines.now c.args.output.now.value) c.args.faulty.now.ids)
+    (range_with_len 0 n)) all) c.loop-v.invariant

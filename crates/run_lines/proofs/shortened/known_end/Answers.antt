@@ -1,6 +1,6 @@
 use Rattle.std.proofs.Common.{subst, arith}
 use Rattle.adversary_script.specs.Scripts.{IsScript}
-use Rattle.round_runner.proofs.Firsts.{era_before}
+use Rattle.machine_runner.proofs.Firsts.{era_before}
 use Rattle.run_lines.proofs.shortened.known_end.Goals as goal
 
 pub returns-else-is_some-clause-era : goal.returns-else-is_some-clause-era

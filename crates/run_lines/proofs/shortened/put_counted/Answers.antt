@@ -3,7 +3,8 @@ use Rattle.std.specs.Prelude.{max, min}
 use Rattle.adversary_script.specs.Scripts.{Script, IsScript}
 use Rattle.run_lines.specs.PlayedTexts.{numbered}
 use Rattle.layer_lines.proofs.Played.{faulty_ids}
-use Rattle.run_lines.proofs.RestBehind.{counted_is, counted_set, puts_as}
+use Rattle.edge_io.proofs.Writing.{writes_is}
+use Rattle.run_lines.proofs.RestBehind.{counted_is, counted_set}
 use Rattle.run_lines.proofs.shortened.put_counted.Goals as goal
 
 pub returns : goal.returns
@@ -16,7 +17,7 @@ returns g c = λ began plays.
     let from : c.max-from.result ≡ max r.script.first r.at =
     c.max-from.ensures ∙ ap₂ max first c.at.ensures in
     let behind = ap₂ (λ (a b : ℕ). a - b) from c.at-2.ensures in
-    puts_as _ _ _ _ _ (counted_is (g.L.Lines.wording lines) r began plays
+    writes_is (counted_is (g.L.Lines.wording lines) r began plays
     (g.L.OutputLines.word_at lines) (g.met.L.OutputLines.by_output lines)
     (subst IsScript script c.rounds-rounds.ensures.script) c.args.end c.args.value c.requires.era
     (c.requires.counts began plays) _ _ _ _ _

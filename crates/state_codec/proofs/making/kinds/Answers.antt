@@ -7,7 +7,7 @@ use Rattle.state_codec.proofs.making.kinds.Goals as goal
 
 pub new-requires-clause-limits : goal.new-requires-clause-limits
 new-requires-clause-limits c =
-    let plans = all_of_accepted c.args.plan.now c.tell.ensures.accepted in
+    let plans = all_of_accepted c.args.plan.now c.facts.ensures.accepted in
     own_limited (all_over c.args.plan.now c.args.moduli.now) c.loop-low.low _ _
     (record { least = plans.least; most = plans.most; moduli = c.requires.moduli })
     (c.base_from-own.ensures

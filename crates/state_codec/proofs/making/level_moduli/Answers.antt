@@ -24,7 +24,7 @@ returns-clause-limits c =
     subst (λ ms. All (λ m. (2 ≤ m) × (m ≤ 2 ^ 40)) ms)
     (sym (moduli_end c.loop-i.moduli.items c.args.plan.now.levels c.loop-i.i
     c.loop-i.invariant.depth (omega arith) c.loop-i.invariant.begun))
-    (all_of_accepted c.args.plan.now c.tell.ensures.accepted).moduli
+    (all_of_accepted c.args.plan.now c.facts.ensures.accepted).moduli
 
 pub returns-clause-few : goal.returns-clause-few
-returns-clause-few c = omega (arith, c.loop-i.invariant.depth, c.tell.ensures.depth)
+returns-clause-few c = omega (arith, c.loop-i.invariant.depth, c.facts.ensures.depth)

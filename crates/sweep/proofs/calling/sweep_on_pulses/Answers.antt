@@ -1,8 +1,27 @@
-use Rattle.sweep.proofs.Answered.{answers_of, pulses_are}
+use Rattle.std.proofs.Common.{Ok, Result, ap, refl}
+use Rattle.program_words.proofs.Answered.{answers_as, answers_fails, fails_then}
+use Rattle.program_words.specs.Conduct.{and_then}
+use Rattle.pulse_plan.specs.Laws.{machine_in}
+use Rattle.pulse_runs.specs.RunInputs as pulses
+use Rattle.sweep.specs.Inputs.{noise_sweep, pulses_read, swept_on_pulses}
+use Rattle.sweep.specs.Sweeps.{Swept, on_machine}
+use Rattle.sweep.specs.declared.reasons.SweepReason.{SweepReason}
+use Rattle.sweep.proofs.Answered.{pulses_are}
 use Rattle.sweep.proofs.calling.sweep_on_pulses.Goals as goal
+
+pub returns-in_err-machine-clause-answers : goal.returns-in_err-machine-clause-answers
+returns-in_err-machine-clause-answers g c =
+    let read = pulses.scripted_of c.args.input.now in
+    answers_fails _ _ _ _
+    (fails_then _ (swept_on_pulses read) (noise_sweep c.args.numbers) _ refl
+    (fails_then (swept_on_pulses read) (pulses_read read)
+    (λ scripted. Ok (on_machine (machine_in scripted.plan) scripted.script)) _ refl
+    c.in_err-machine.ensures.fails))
+    c.from_residual.ensures.1
 
 pub returns-clause-answers : goal.returns-clause-answers
 returns-clause-answers g c =
-    answers_of _ _ _ _ _ _ _
-    (pulses_are c.args.input.now _ c.in_ok-machine.ensures _ c.in_ok-runner.ensures)
+    answers_as _ _ _ _ _
+    (ap (λ (x : Result Swept SweepReason). and_then x (noise_sweep c.args.numbers))
+    (pulses_are c.args.input.now _ c.in_ok-machine.ensures.read _ c.in_ok-runner.ensures))
     c.sweep_noise.ensures.sweeps

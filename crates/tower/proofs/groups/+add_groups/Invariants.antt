@@ -8,7 +8,7 @@ use Rattle.tower.proofs.groups.+add_groups.Given as goal
 abbrev pub decreases-add_groups : goal.decreases-add_groups
 decreases-add_groups l = length l.levels.now
 
--- behind the group at the top stand those of the blocks so far
+-- after the group at the top stand those of the blocks so far
 abbrev pub invariant-loop-b : goal.invariant-loop-b
 invariant-loop-b l = record {
   added : map key_of l.groups.items ≡ map key_of l.initial.groups.items

@@ -20,7 +20,7 @@ pub invariant_of-result : goal.invariant_of-result
 invariant_of-result c =
     kept c.args.plan.now _ _ _ _ c.version.ensures c.base_modulus.ensures
     (omega (arith, c.loop-i-test.false, c.depth-i-end.ensures.value))
-    c.loop-i.invariant.numbers _ c.tell.ensures.accepted (cc)
+    c.loop-i.invariant.numbers _ c.facts.ensures.accepted (cc)
 
 pub returns-clause-plan : goal.returns-clause-plan
 returns-clause-plan c =
@@ -31,4 +31,4 @@ returns-clause-plan c =
 pub returns-clause-settles : goal.returns-clause-settles
 returns-clause-settles c =
     subst (λ (p : Plan). Settles p) (sym (returns-clause-plan c))
-    (every_plan_settles c.args.plan.now c.tell.ensures.accepted)
+    (every_plan_settles c.args.plan.now c.facts.ensures.accepted)

@@ -1,7 +1,8 @@
 use Rattle.std.proofs.Common.{map, sym, ◌∙◌, ap, refl}
 use Rattle.std.specs.Prelude.{string_bytes}
 use Rattle.trace.specs.Answers.{fails_at_first}
-use Rattle.trace.proofs.PulsesTraced.{answers_as, of_read, of_levels, refused}
+use Rattle.program_words.proofs.Answered.{answers_as}
+use Rattle.trace.proofs.PulsesTraced.{of_read, of_levels, refused}
 use Rattle.trace.proofs.answering.write_trace.Goals as goal
 
 pub returns-in_ok-runner-in-Ok : goal.returns-in_ok-runner-in-Ok

@@ -3,12 +3,12 @@ use Rattle.std.specs.Prelude.{string_bytes}
 use Rattle.pulse_plan.specs.Plans.{PulseNumbers}
 use Rattle.trace.specs.Names.{named_nodes}
 use Rattle.trace.proofs.NamedNodes.{named_below}
-use Rattle.trace.proofs.Traced.{unwritten}
+use Rattle.program_words.proofs.Answered.{answers_cut}
 use Rattle.trace.proofs.PulsesTraced.{traced}
 use Rattle.trace.proofs.of_pulses.write_pulses_trace.Goals as goal
 
-pub put_trace-requires-clause-nodes : goal.put_trace-requires-clause-nodes
-put_trace-requires-clause-nodes g c =
+pub put_pulse_trace-requires-clause-nodes : goal.put_pulse_trace-requires-clause-nodes
+put_pulse_trace-requires-clause-nodes g c =
     let words = map string_bytes c.args.words.now in
     let n = c.nodes.result in
     let same : n ≡ c.args.runner.now.machine.nodes =
@@ -19,8 +19,8 @@ put_trace-requires-clause-nodes g c =
     subst (All (λ v. v < c.args.runner.now.machine.nodes))
     (sym (c.deref.ensures.value ∙ naming.1)) all
 
-pub returns-in_err-put_trace : goal.returns-in_err-put_trace
-returns-in_err-put_trace g c =
+pub returns-in_err-put_pulse_trace : goal.returns-in_err-put_pulse_trace
+returns-in_err-put_pulse_trace g c =
     let r = c.args.runner.now in
     let n : c.nodes.result ≡ r.machine.nodes =
     c.nodes.ensures
@@ -33,10 +33,10 @@ returns-in_err-put_trace g c =
       c.rounds.ensures.value,
       ap (λ s. s.rounds) c.script.ensures,
     ) in
-    unwritten _ _ _ _ _
+    answers_cut _ _ _ _ _
     (traced c.args.want (map string_bytes c.args.words.now) r.machine r.script le
     c.deref.result.now (naming.0, c.deref.ensures.value ∙ naming.1))
-    c.from_residual-in_err-put_trace.ensures.1 c.in_err-put_trace.ensures
+    c.from_residual-in_err-put_pulse_trace.ensures.1 c.in_err-put_pulse_trace.ensures
 
 pub returns : goal.returns
 returns g c =
@@ -54,7 +54,7 @@ returns g c =
     ) in
     record {
       text = _;
-      traced = traced c.args.want (map string_bytes c.args.words.now) r.machine r.script le
+      is = traced c.args.want (map string_bytes c.args.words.now) r.machine r.script le
           c.deref.result.now (naming.0, c.deref.ensures.value ∙ naming.1);
-      has = c.in_ok-put_trace.ensures;
+      has = c.in_ok-put_pulse_trace.ensures;
     }

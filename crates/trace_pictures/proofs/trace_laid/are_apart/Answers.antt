@@ -1,6 +1,6 @@
 use Rattle.std.proofs.Common.{ℕ, ◌<◌, get_or, arith}
 use Rattle.std.proofs.lemmas.List.{get_or_default}
-use Rattle.trace_pictures.specs.declared.traces.Reign.{Reign}
+use Rattle.trace_pictures.specs.declared.traces.KingPhase.{KingPhase}
 use Rattle.trace_pictures.proofs.TurnsApart.{apart_more, most_more}
 use Rattle.trace_pictures.proofs.trace_laid.are_apart.Goals as goal
 use Rattle.trace_pictures.proofs.trace_laid.are_apart.Goals.{then-reign-column-2}
@@ -15,7 +15,8 @@ loop-k-preserved c =
     let column = c.if-reign-column-2.column in
     let most = most_more reigns k _ (λ d. get_or_default reigns k _ d c.loop-k-test.true)
     c.loop-k.column c.if-reign-column.false before.most in
-    let early : (j : ℕ) (d : Reign) → j < from → (get_or reigns j d).column < column = λ j d less.
+    let early : (j : ℕ) (d : KingPhase) → j < from → (get_or reigns j d).column
+    < column = λ j d less.
     elim c.if-reign-column-2.branch [
       | then-reign-column-2 w ↦
           let here : j < k = omega (arith, less, w.from-is) in

@@ -5,5 +5,6 @@ use Rattle.trace_pictures.proofs.trace_pictures.put_trace_picture.Goals as goal
 pub returns : goal.returns
 returns g c =
     puts_lent g.K.Sink.told _ _ _ _ _ _ _ _ (search rules)
-    (c.finish.ensures.puts _ _ (rw c.new-parts.ensures.told at c.put_parts-written.ensures))
-    c.finish.ensures.none_held
+    (c.finish_with.ensures.puts _ _ (rw c.gathering-parts.ensures.told at
+    c.put_parts-written.ensures))
+    c.finish_with.ensures.none_held

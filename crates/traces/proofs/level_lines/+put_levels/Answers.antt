@@ -1,8 +1,7 @@
-use Rattle.std.proofs.Common.{◌/◌, ◌%◌, ◌<◌, ◌≤◌, All, length, sym, ap, ◌∙◌, subst, arith}
-use Rattle.std.specs.Prelude.{Result}
+use Rattle.std.proofs.Common.{◌/◌, ◌%◌, ◌<◌, ◌≤◌, All, length, sym, ap, ◌∙◌, arith}
 use Rattle.std.proofs.lemmas.List.Elements.{All-same, All-weaker}
-use Rattle.texts.specs.Growth.{Puts}
-use Rattle.texts.proofs.Growth.{wrote_none, puts_then, cut_more}
+use Rattle.edge_io.specs.Writing.{Writes}
+use Rattle.edge_io.proofs.Writing.{writes_is, writes_none, writes_then}
 use Rattle.sync_types.specs.States.{State}
 use Rattle.construction.specs.Votes.{block}
 use Rattle.construction.proofs.Blocks.{All-block, length-block-most}
@@ -11,7 +10,6 @@ use Rattle.counter_core.specs.Working.{IsFor}
 use Rattle.tower.proofs.Descent.{below_levels, top_numbers, top_sized, group_nodes, place_below}
 use Rattle.tower.proofs.Descent.{block_size}
 use Rattle.traces.specs.Views.{StandsIn}
-use Rattle.trace_words.proofs.LineParts.{wrote_as, cut_as, puts_as}
 use Rattle.traces.proofs.LevelDescent.{no_lines, lines_below, lines_by, lower_in, lower_out}
 use Rattle.traces.proofs.LevelDescent.{block_within, place_before}
 use Rattle.traces.proofs.level_lines.+put_levels.Goals as goal
@@ -20,8 +18,8 @@ use Rattle.traces.proofs.level_lines.+put_levels.Goals.{then-place-nums, else-pl
 pub returns-in_default-clause-lines : goal.returns-in_default-clause-lines
 returns-in_default-clause-lines g t c =
     let view = c.args.view.now in
-    wrote_as _ _ _ _ (no_lines view.heading view.faulty.now.ids view.config.now view.hears
-    c.args.levels.now c.args.place c.args.group.now c.in_default.ensures.cases) (wrote_none _)
+    writes_is (no_lines view.heading view.faulty.now.ids view.config.now view.hears
+    c.args.levels.now c.args.place c.args.group.now c.in_default.ensures.cases) writes_none
 
 pub block_nodes-n-requires : goal.block_nodes-n-requires
 block_nodes-n-requires g t c = top_sized _ _ _ _ c.in-Some.ensures.cases.0 c.requires.levels.1
@@ -49,8 +47,8 @@ invariant_of-at g t c =
     }
 
 -- that the list falls, and the clauses in their order
-pub put_levels-written-requires : goal.put_levels-written-requires
-put_levels-written-requires g t c κs within =
+pub put_levels-requires : goal.put_levels-requires
+put_levels-requires g t c κs within =
     let e = c.in-Some.ensures.cases.0 in
     let are = c.requires.levels.1 in
     let st = c.requires.stands in
@@ -96,34 +94,6 @@ put_levels-written-requires g t c κs within =
     let has = block_size _ _ _ _ e are place n group same lt size own mine in
     (falls, (within, (stays, (stands, (has, (own_deep, for_work))))))
 
-pub returns-in-Err-clause-lines : goal.returns-in-Err-clause-lines
-returns-in-Err-clause-lines g t c =
-    let e = c.in-Some.ensures.cases.0 in
-    let are = c.requires.levels.1 in
-    let view = c.args.view.now in
-    let ids = view.faulty.now.ids in
-    let config = view.config.now in
-    let group = c.args.group.now in
-    let place = c.args.place in
-    let n = c.block_nodes-n.result in
-    let same = c.block_nodes-n.ensures in
-    let lower = lines_below _ _ _ _ e are view.heading ids config view.hears place group in
-    let puts : Puts c.if-place-nums.written lower (g.K.Sink.told c.args.sink.now)
-    (g.K.Sink.told c.if-place-nums.sink) = elim c.if-place-nums.branch [
-      | then-place-nums w ↦
-          rw (w.written-is, w.sink-is) (puts_as _ _ _ _ _
-          (lower_in _ _ _ _ e are view.heading ids config view.hears place group n _ same
-          w.if-place-nums.true w.block-block.ensures) w.put_levels-written.ensures.lines)
-      | else-place-nums w ↦
-          rw (w.written-is, w.sink-is) (wrote_as _ _ _ _
-          (lower_out _ _ _ _ e are view.heading ids config view.hears place group n same
-          (omega (arith, w.if-place-nums.false))) (wrote_none _))
-    ] in
-    let cut = subst (λ (r : Result _ _). Puts r lower (g.K.Sink.told c.args.sink.now)
-    (g.K.Sink.told c.if-place-nums.sink)) c.in-Err.is puts in
-    cut_as _ _ _ _ (sym (lines_by _ _ _ _ e are view.heading ids config view.hears place group))
-    (cut_more _ _ _ _ cut)
-
 pub returns-clause-lines : goal.returns-clause-lines
 returns-clause-lines g t c =
     let e = c.in-Some.ensures.cases.0 in
@@ -136,19 +106,16 @@ returns-clause-lines g t c =
     let n = c.block_nodes-n.result in
     let same = c.block_nodes-n.ensures in
     let lower = lines_below _ _ _ _ e are view.heading ids config view.hears place group in
-    let puts : Puts c.if-place-nums.written lower (g.K.Sink.told c.args.sink.now)
-    (g.K.Sink.told c.if-place-nums.sink) = elim c.if-place-nums.branch [
+    let below = elim c.if-place-nums.branch as
+    (λ _. Writes g.K.Sink.told lower c.args.writer.now c.if-place-nums.writer) [
       | then-place-nums w ↦
-          rw (w.written-is, w.sink-is) (puts_as _ _ _ _ _
+          rw w.writer-is (writes_is
           (lower_in _ _ _ _ e are view.heading ids config view.hears place group n _ same
-          w.if-place-nums.true w.block-block.ensures) w.put_levels-written.ensures.lines)
+          w.if-place-nums.true w.block-block.ensures) w.put_levels.ensures.lines)
       | else-place-nums w ↦
-          rw (w.written-is, w.sink-is) (wrote_as _ _ _ _
+          rw w.writer-is (writes_is
           (lower_out _ _ _ _ e are view.heading ids config view.hears place group n same
-          (omega (arith, w.if-place-nums.false))) (wrote_none _))
+          (omega (arith, w.if-place-nums.false))) writes_none)
     ] in
-    let wrote = subst (λ (r : Result _ _). Puts r lower (g.K.Sink.told c.args.sink.now)
-    (g.K.Sink.told c.if-place-nums.sink)) c.in-Ok.is puts in
-    puts_as _ _ _ _ _
-    (sym (lines_by _ _ _ _ e are view.heading ids config view.hears place group))
-    (puts_then _ _ _ _ _ _ wrote c.put_level_line.ensures.line)
+    writes_is (sym (lines_by _ _ _ _ e are view.heading ids config view.hears place group))
+    (writes_then below c.put_level_line.ensures.line)

@@ -1,8 +1,7 @@
 use Rattle.std.proofs.Common.{◌≡◌, List, All, length, refl, sym, ap, ◌∙◌, subst}
 use Rattle.std.specs.Prelude.{slice_index_or}
 use Rattle.std.proofs.lemmas.List.{with_items_is}
-use Rattle.texts.specs.Growth.{Wrote, Cut}
-use Rattle.texts.proofs.Growth.{wrote_none, wrote_at, cut_at}
+use Rattle.edge_io.proofs.Writing.{writes_at, writes_is, writes_none}
 use Rattle.sync_types.specs.States.{State}
 use Rattle.round_runner.specs.Runners.{Running}
 use Rattle.traces.specs.Desks.{IsFitFor}
@@ -17,7 +16,7 @@ loop-i-init g c =
     let long = c.lay_states.auto.config ∙ c.deref_mut.ensures.len in
     let items = with_items_is c.args.desk.now.config c.lay_states.new.config long in
     record {
-      wrote = wrote_none _;
+      wrote = writes_none;
       same = refl;
       desk = record {
         levels = fit.levels;
@@ -39,33 +38,19 @@ loop-i-init g c =
       laid = items ∙ c.lay_states.ensures.states;
     }
 
-pub returns-in-Err-clause-lines : goal.returns-in-Err-clause-lines
-returns-in-Err-clause-lines g c =
-    let r = c.args.runner.now in
-    let nodes = c.args.nodes.now in
-    let i = c.loop-i.i in
-    let s = g.K.Sink.told c.loop-i.sink in
-    let t = g.K.Sink.told c.put_node_lines.new.sink in
-    cut_at (node_text r.plan r.script r.at r.states) nodes i 0 _ s t c.loop-i-test.true
-    c.loop-i.invariant.wrote
-    (subst (λ (r : Running _). Cut (node_text r.plan r.script r.at r.states
-    (slice_index_or nodes i 0)) s t) c.loop-i.invariant.same c.in-Err.ensures.lines)
-
 pub loop-i-preserved : goal.loop-i-preserved
 loop-i-preserved g c =
     let r = c.args.runner.now in
     let nodes = c.args.nodes.now in
     let i = c.loop-i.i in
     let inv = c.loop-i.invariant in
-    let s = g.K.Sink.told c.loop-i.sink in
-    let t = g.K.Sink.told c.put_node_lines.new.sink in
     record {
-      wrote = wrote_at (node_text r.plan r.script r.at r.states) nodes i 0 _ s t
+      wrote = writes_at (node_text r.plan r.script r.at r.states) nodes i 0
           c.loop-i-test.true inv.wrote
-          (subst (λ (r : Running _). Wrote (node_text r.plan r.script r.at r.states
-          (slice_index_or nodes i 0)) s t) inv.same c.in-Ok.ensures.lines);
-      same = c.in-Ok.ensures.same ∙ inv.same;
+          (writes_is (ap (λ (r : Running _). node_text r.plan r.script r.at r.states
+          (slice_index_or nodes i 0)) inv.same) c.put_node_lines.ensures.lines);
+      same = c.put_node_lines.ensures.same ∙ inv.same;
       desk = subst (λ (r : Running _). IsFitFor r c.put_node_lines.new.desk) inv.same
-          c.in-Ok.ensures.desk;
-      laid = c.in-Ok.ensures.laid ∙ inv.laid;
+          c.put_node_lines.ensures.desk;
+      laid = c.put_node_lines.ensures.laid ∙ inv.laid;
     }

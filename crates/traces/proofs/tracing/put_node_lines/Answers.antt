@@ -6,7 +6,7 @@ use Rattle.adversary_script.specs.Scripts.{Script}
 use Rattle.adversary_script.specs.Eras.{faulty_at}
 use Rattle.round_runner.specs.Runners.{Running}
 use Rattle.traces.proofs.Hearing.{view_is}
-use Rattle.trace_words.proofs.LineParts.{puts_as}
+use Rattle.edge_io.proofs.Writing.{writes_is}
 use Rattle.traces.proofs.tracing.put_node_lines.Goals as goal
 
 pub returns-clause-lines : goal.returns-clause-lines
@@ -18,7 +18,7 @@ returns-clause-lines g c =
     let ids = ap (λ (s : FaultIds). s.ids) c.faulty_at-faulty.ensures
     ∙ ap₂ (λ (s : Script) (t : ℕ). faulty_at s t) script at in
     let long = c.hear-hears.auto.heard ∙ c.deref_mut.ensures.len in
-    puts_as _ _ _ _ _
+    writes_is
     (view_is r.plan r.script r.at c.args.v r.states _ _ _ _ _ _ _ at
     (c.contains.ensures ∙ ap (λ (xs : List ℕ). is_in xs c.args.v) ids) ids
     (c.deref.ensures.value ∙ c.requires.laid) c.hear-hears.ensures.hears

@@ -4,7 +4,7 @@ use Rattle.sync_types.specs.FaultSets.{FaultIds, is_in}
 use Rattle.construction.specs.Plans.{Plan, plan_nodes}
 use Rattle.try_counters.proofs.tower_calls.both_steps_are_one.Goals as goal
 
--- a row: what is told, a node, its new register, and the liars that it heeds
+-- a row: what is said, a node, its new register, and the liars that it heeds
 abbrev Row : Type 0
 Row = ℕ × ℕ × Option ℕ × (ℕ × ℕ)
 

@@ -14,7 +14,7 @@ returns-clause-range c =
     let d : ℕ = c.in_ok-shape.shape.depth in
     let zero : IsInRange plan (zero_state d) =
     subst (λ d. IsInRange plan (zero_state d)) (sym c.in_ok-shape.ensures.depth)
-    (plan_zero plan c.tell.ensures.accepted) in
+    (plan_zero plan c.facts.ensures.accepted) in
     let each : All (IsInRange plan) (replicate n (zero_state d)) = λ i none lt.
     let within : i < n = omega (arith, lt, length-replicate n (zero_state d)) in
     subst (IsInRange plan) (sym (get_or-replicate n i (zero_state d) none within)) zero in

@@ -1,5 +1,5 @@
 use Rattle.std.proofs.Common.{ℕ, List, Option, Some, refl, sym, ap, ◌∙◌, subst}
-use Rattle.texts.specs.Growth.{Told}
+use Rattle.texts.specs.Growth.{SinkState}
 use Rattle.sync_types.specs.declared.status.Status.{Status}
 use Rattle.sync_types.specs.declared.status.Status.TheVariants as status
 use Rattle.outcomes.specs.declared.commands.Command.TheVariants as command
@@ -11,13 +11,13 @@ use Rattle.outcomes.specs.Conduct.{Does, LeavesUntouched}
 use Rattle.outcomes.specs.DemoText.{demo_text}
 use Rattle.answers.specs.Ends.{Ends}
 use Rattle.answers.proofs.Ended.{ends_by}
-use Rattle.promises.proofs.DemoTexts.{demo_ends_well, demo_is_short}
+use Rattle.promises.proofs.DemoTexts.{demo_ends_well}
 use Rattle.workbench.proofs.Unread.{unread_answered, unread_cut}
 use Rattle.workbench.proofs.Whole.{unmet}
 use Rattle.workbench.proofs.demo_word.demo.Goals as goal
 
 -- what `demo` did, by what became of its text
-module _ {K : Type 0} (told : K → Told) (seed : ℕ) (left : Option (List ℕ)) (count : ℕ)
+module _ {K : Type 0} (told : K → SinkState) (seed : ℕ) (left : Option (List ℕ)) (count : ℕ)
     (old new : K) where
   abbrev Did : Status → Type 0
   Did s = Does (Some (command.Demo seed)) s left left count count (told old) (told new)
@@ -34,8 +34,8 @@ module _ {K : Type 0} (told : K → Told) (seed : ℕ) (left : Option (List ℕ)
       (unread_answered (defined (Some (command.Demo seed))) outcome (λ input. refl) left count
       (told old) (told new) status.Ok (sym (demo_ends_well seed)) wrote))
 
--- where memory was refused the sink is as it was
-untouched : {K : Type 0} (told : K → Told) (seed : ℕ) (old new : K) (s : Status)
+-- if memory was refused, the sink is as it was
+untouched : {K : Type 0} (told : K → SinkState) (seed : ℕ) (old new : K) (s : Status)
     → Ends told s (answer_of batch.Run (demo_text seed)) old new
     → LeavesUntouched (Some (command.Demo seed)) s old new
 untouched told seed old new =
@@ -43,10 +43,6 @@ untouched told seed old new =
     (answer_of batch.Run (demo_text seed)) old new (λ cut. tt) (λ none. none)
     (λ wrote. subst (λ s. LeavesUntouched (Some (command.Demo seed)) s old new)
     (sym (demo_ends_well seed)) tt)
-
-pub answer-requires : goal.answer-requires
-answer-requires g c =
-    let text = c.as_bytes.ensures.value ∙ c.in-Ok.ensures in rw text (demo_is_short c.args.seed)
 
 pub returns-clause-does : goal.returns-clause-does
 returns-clause-does g c =

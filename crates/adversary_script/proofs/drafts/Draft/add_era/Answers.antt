@@ -10,7 +10,7 @@ invariant_of-self c =
     let room = rw (← c.self.view_is) at c.requires.many in
     let above = rw (← c.self.view_is) at c.requires.above in
     let nodes = rw (← c.self.view_is) at c.requires.nodes in
-    let ids = rw nodes at c.tell.ensures.below in (
+    let ids = rw nodes at c.facts.ensures.below in (
       pushed_formed _ c.self.invariant.0 eras refl (is_ok c.push.result) _ c.push.new.self.items
           c.push.ensures.items c.new.ensures.items room above ids,
       record {

@@ -6,5 +6,5 @@ use Rattle.adversary_script.proofs.scripts.Script.start_into.Goals as goal
 
 pub returns-in-Zero-clause-range : goal.returns-in-Zero-clause-range
 returns-in-Zero-clause-range c =
-    let sound = subst (λ (s : Script). IsShape s.shape) c.self.view_is c.tell.ensures in
+    let sound = subst (λ (s : Script). IsShape s.shape) c.self.view_is c.facts.ensures in
     rw (c.zero_into.ensures, c.requires.depth) (zero_of_node c.args.self.now.shape c.args.v sound)

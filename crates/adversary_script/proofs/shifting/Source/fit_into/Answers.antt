@@ -13,4 +13,4 @@ returns-clause-range c =
     let is : c.fit_registers.new.out ≡ fitted (fields_at shape c.args.self.now.v)
     (state_of states c.args.self.now.w) = search rules in
     rw is (fitted_in_range (fields_at shape c.args.self.now.v) (state_of states c.args.self.now.w)
-    (fields_limited shape c.args.self.now.v c.tell.ensures.sound))
+    (fields_limited shape c.args.self.now.v c.facts.ensures.sound))

@@ -13,7 +13,7 @@ returns-clause-range c =
     let fields = fields_at shape c.args.self.now.v in
     let state = state_of c.args.self.now.config.now.current c.args.self.now.w in
     let limited = fields_limited shape c.args.self.now.v
-    c.tell.ensures.sound in
+    c.facts.ensures.sound in
     let range : InRange fields (shifted c.args.by fields state) = shifted_in_range c.args.by _ state
     limited in
     let is : c.shift_registers.new.out ≡ shifted c.args.by fields state = search rules in

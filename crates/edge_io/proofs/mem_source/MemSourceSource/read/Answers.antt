@@ -1,10 +1,10 @@
 use Rattle.std.proofs.Common.{◌≡◌, ℕ, ◌+◌, List, ◌++◌, length, take, drop, refl, sym, ap, ◌∙◌}
 use Rattle.std.proofs.Common.{arith}
 use Rattle.std.proofs.lemmas.List.{take_at, drop-drop, length-take, take-append-drop}
-use Rattle.edge_io.specs.Memory.{SourceState}
+use Rattle.edge_io.specs.Memory.{MemSourceState}
 use Rattle.edge_io.proofs.mem_source.MemSourceSource.read.Goals as goal
 
--- the bytes at the front of the buffer are those that are no longer left
+-- the bytes at the beginning of the buffer are those that are no longer left
 moved_part : (bytes buf now tail : List ℕ) (at n k : ℕ) → buf ≡ bytes → now ≡ take k (drop at buf)
     → k ≡ n → length now ≡ n → drop at bytes ≡ take n (now ++ tail) ++ drop (at + n) bytes
 moved_part bytes buf now tail at n k same is kn len =
@@ -17,7 +17,7 @@ returns-clause-bytes c =
     let at = c.self.inside.at in
     let bytes = c.self.inside.bytes.items in
     let left : drop at bytes ≡ c.args.self.now.left =
-    ap (λ (s : SourceState). s.left) c.self.view_is in
+    ap (λ (s : MemSourceState). s.left) c.self.view_is in
     let size : length c.copy_from_slice.new.self ≡ c.cut-count.result =
     omega (
       arith,

@@ -6,8 +6,8 @@ use Rattle.layer_lines.proofs.logged.Logged.new.Goals as goal
 pub invariant_of-result-clause-room : goal.invariant_of-result-clause-room
 invariant_of-result-clause-room c =
     let numbers = c.args.numbers.now in
-    let two = c.tell.ensures.least in
-    let quorum = c.tell.ensures.quorum in
+    let two = c.facts.ensures.least in
+    let quorum = c.facts.ensures.quorum in
     let modulus = c.modulus.ensures in
     let faults = c.faults.ensures in
     let room = room_for_one numbers.modulus numbers.nodes (entry_length numbers.faults)

@@ -1,15 +1,17 @@
-use Rattle.std.proofs.Common.{◌≡◌, ℕ, ◌+◌, List, length, set, sym, ap, ◌∙◌}
+use Rattle.std.proofs.Common.{◌≡◌, ℕ, ◌+◌, List, length, Bool, None, get_or, set, sym, ap, ◌∙◌}
 use Rattle.std.proofs.lemmas.List.FromFn.{length-map-range_with_len}
+use Rattle.sync_types.specs.FaultSets.{FaultIds}
 use Rattle.sync_types.specs.States.{State}
 use Rattle.state_codec.specs.Packs.{Pack}
+use Rattle.machine_runner.specs.FirstLocked.{first_of}
 use Rattle.machine_runner.specs.Locks.{is_locked}
-use Rattle.machine_runner.proofs.Keeping.{locked_next}
+use Rattle.machine_runner.proofs.KnownLocks.{noted_is}
 use Rattle.layer_laws.specs.Scenes.{Scene}
-use Rattle.layer_runs.specs.Positions.{Position}
-use Rattle.layer_runs.specs.Scenes.{state_behind, stepped_scene}
+use Rattle.layer_laws.specs.Positions.{Position}
+use Rattle.layer_laws.specs.PlayedScenes.{state_behind, stepped_scene}
+use Rattle.layer_laws.proofs.Playing.{stepped_is, scene_is}
 use Rattle.layer_runner.specs.Counters.{machine_counter}
-use Rattle.layer_runner.proofs.Keeping.{room_for, stepped_is, scene_is, locks_are, advanced_is}
-use Rattle.layer_runner.proofs.Keeping.{moved}
+use Rattle.layer_runner.proofs.Keeping.{room_for, advanced_is, moved}
 use Rattle.layer_runner.proofs.plays.LayerRunnerPlay.round.Goals as goal
 
 pub lay_fronts-requires-clause-room : goal.lay_fronts-requires-clause-room
@@ -59,12 +61,14 @@ returns g c =
     moved g.M.Machine.machine g.O.Overlay.layer g.O.Overlay.kept _ c.args.self.now _
     c.self.view_is
     (advanced_is old (g.O.Overlay.layer c.step_all.new.overlay) next
-    (set c.self.inside.locks.items c.era_of-era.result c.locked_so_far.result)
+    c.note_lock.new.locks.items
     (c.step_all.ensures.layer ∙ c.begin.ensures.layer)
     (scene_is (states ∙ ap (λ (s : Scene _). s.states) scene)
     (c.step_all.ensures.kept ∙ ap (λ (s : Scene _). s.kept) scene))
-    (locks_are (is_locked machine) script c.self.inside.locks.items (t + 1)
-    c.flip.new.self.current c.era_of-era.result c.index.result.now c.era_faulty-2.result.now
-    c.locked_so_far.result c.self.invariant.eras c.era_of-era.ensures.value
-    c.era_of-era.ensures.most c.index.ensures c.era_faulty-2.ensures
-    (locked_next _ _ _ _ _ c.locked_so_far.ensures c.is_locked-locked.ensures)))
+    (c.note_lock.ensures
+    ∙ ap (λ (b : Bool). set c.self.inside.locks.items c.era_of-era.result
+    (first_of (get_or c.self.inside.locks.items c.era_of-era.result None) b (t + 1)))
+    c.is_locked-locked.ensures
+    ∙ noted_is (is_locked machine) script c.self.inside.locks.items (t + 1)
+    c.flip.new.self.current c.era_of-era.result (c.era_faulty-2.result.now).ids
+    c.era_of-era.ensures.value (ap (λ (s : FaultIds). s.ids) c.era_faulty-2.ensures)))

@@ -38,7 +38,7 @@ loop-i-preserved c =
                 (w.old.ensures ∙ sym (from_itself script self.t self.v config u
                 w.if-u-self.true))
                 (read_deep self.states.now.shape script.shape config u w.old.new.out self.shape
-                (c.tell.ensures.current u (omega (arith, node, self.size))) w.old.ensures)
+                (c.facts.ensures.current u (omega (arith, node, self.size))) w.old.ensures)
                 c.loop-i.invariant.told;
             noise = c.loop-i.invariant.noise;
           })

@@ -4,8 +4,12 @@ use Rattle.sync_types.specs.declared.states.Reg.{Reg}
 use Rattle.machine_runner.specs.Locks.{is_locked_at}
 use Rattle.machine_runner.proofs.Correct.{from_zero, from_faulty, one_is, one_is_not}
 use Rattle.machine_runner.proofs.locks.Registers.all_locked_at.Goals as goal
-use Rattle.machine_runner.proofs.locks.Registers.all_locked_at.Goals.{else-not-contains-via-then-not-contains+else-not-is_locked_at}
-use Rattle.machine_runner.proofs.locks.Registers.all_locked_at.Goals.{else-not-contains-via-else-not-contains}
+use Rattle.machine_runner.proofs.locks.Registers.all_locked_at.Goals.{
+  else-not-contains-via-then-not-contains+else-not-is_locked_at,
+}
+use Rattle.machine_runner.proofs.locks.Registers.all_locked_at.Goals.{
+  else-not-contains-via-else-not-contains,
+}
 
 pub returns-then-not-is_locked_at : goal.returns-then-not-is_locked_at
 returns-then-not-is_locked_at c =

@@ -9,7 +9,7 @@ pub hear-requires-clause-room : goal.hear-requires-clause-room
 hear-requires-clause-room g c =
     let kept = c.self.invariant in
     room_laid c.self.inside.script c.self.inside.states.shape c.self.inside.states.current _
-    c.lay.ensures kept.shape kept.size c.tell.ensures.current
+    c.lay.ensures kept.shape kept.size c.facts.ensures.current
 
 pub returns-clause-heard : goal.returns-clause-heard
 returns-clause-heard g c =

@@ -9,4 +9,4 @@ returns-clause-room g c =
     let kept = c.self.invariant in
     subst (λ (r : Running _). HasRoom r.script c.lay.new.heard) c.self.view_is
     (room_laid c.self.inside.script c.self.inside.states.shape c.self.inside.states.current _
-    c.lay.ensures kept.shape kept.size c.tell.ensures.current)
+    c.lay.ensures kept.shape kept.size c.facts.ensures.current)

@@ -1,4 +1,5 @@
 use Rattle.std.proofs.Common.{◌≡◌, ◌≤◌, ℕ, List, Option, length, get_or, sym, ap, ◌∙◌, subst, arith}
+use Rattle.machine_runner.specs.Locks.{is_locked}
 use Rattle.machine_runner.specs.Played.{played_at}
 use Rattle.machine_runner.proofs.KnownLocks.{known_at}
 use Rattle.machine_runner.specs.Runners.{Running, lock_of}
@@ -21,5 +22,5 @@ returns g c =
     c.self.view_is
     (c.index.ensures
     ∙ ap (λ (xs : List (Option ℕ)). get_or xs c.args.j c.index.result.now) c.self.invariant.known
-    ∙ known_at machine script (played_at machine script) c.self.inside.at c.args.j
+    ∙ known_at (is_locked machine) script (played_at machine script) c.self.inside.at c.args.j
     c.index.result.now (omega (arith, among)))

@@ -1,10 +1,10 @@
-use Rattle.std.proofs.Common.{List, length, refl, sym, ap, ◌∙◌, subst, arith}
+use Rattle.std.proofs.Common.{Bool, List, ◌∷◌, length, None, replicate, refl, sym, ap, ◌∙◌, arith}
+use Rattle.sync_types.specs.FaultSets.{FaultIds}
 use Rattle.state_codec.specs.Packs.{Pack}
-use Rattle.counter_core.specs.Working.{IsFor}
+use Rattle.machine_runner.specs.FirstLocked.{first_of}
+use Rattle.machine_runner.specs.Locks.{is_locked}
 use Rattle.machine_runner.proofs.Firsts.{begun_era}
-use Rattle.machine_runner.specs.declared.stepping.Room.{Room}
-use Rattle.machine_runner.specs.Hearing.{HasRoom}
-use Rattle.machine_runner.proofs.Keeping.{locks_begin, locks_long, first_faulty}
+use Rattle.machine_runner.proofs.Keeping.{locks_begin, locks_long}
 use Rattle.machine_runner.proofs.runners.Runner.new.Goals as goal
 
 pub invariant_of-result : goal.invariant_of-result
@@ -12,19 +12,20 @@ invariant_of-result g c =
     let machine = g.M.Machine.machine c.args.machine.now in
     let script = c.args.script in
     let room = c.in_ok-room.ensures in
-    let same = c.start_all.ensures.same in
-    let rising = c.requires.read.whole.formed.rising in
-    let here = begun_era script rising 0 0 (omega (arith)) refl in
-    let locks = c.in_ok-locks.ensures ∙ locks_begin machine script c.start_all.new.states.current
-    script.faulty _ c.requires.read.whole c.start_all.ensures.states (first_faulty script here)
-    refl in
+    let whole = c.requires.read.whole in
+    let locks = c.in_ok-locks.ensures
+    ∙ ap (λ (b : Bool). first_of None b 0 ∷ replicate (length script.eras) None)
+    (c.is_locked-locked.ensures
+    ∙ ap (λ (s : FaultIds). is_locked machine s.ids c.start_all.new.states.current)
+    c.faulty-2.ensures)
+    ∙ locks_begin machine script c.start_all.new.states.current whole c.start_all.ensures.states in
     record {
-      sound = c.tell-2.ensures;
+      sound = c.facts-2.ensures;
       read = c.requires.read;
       ready = record {
         noise = c.start_all.ensures.noise;
-        heard = subst (λ (r : Room). HasRoom script r.heard.items) (sym same) room.heard;
-        work = subst (λ (r : Room). IsFor script.nodes r.work) (sym same) room.work;
+        heard = room.heard;
+        work = room.work;
         out = c.start_all.ensures.out;
       };
       shape = c.start_all.ensures.shape
@@ -32,7 +33,7 @@ invariant_of-result g c =
       size = c.start_all.ensures.size;
       played = c.start_all.ensures.states;
       within = omega (arith);
-      here = sym here;
+      here = sym (begun_era script whole.formed.rising 0 0 (omega (arith)) refl);
       eras = ap (λ (xs : List _). length xs) locks ∙ locks_long machine script 0;
       known = locks;
     }

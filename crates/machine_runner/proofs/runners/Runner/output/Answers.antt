@@ -18,7 +18,7 @@ output-requires-clause-state g c =
     (sym c.self.view_is) c.requires in
     state_in (g.M.Machine.machine c.self.inside.machine.now) c.self.inside.script
     c.self.inside.states.shape c.self.inside.states.current c.args.v _ c.self.invariant.read
-    c.self.invariant.shape c.self.invariant.size c.tell-2.ensures.current lt c.state.ensures
+    c.self.invariant.shape c.self.invariant.size c.facts-2.ensures.current lt c.state.ensures
 
 pub returns-clause-below : goal.returns-clause-below
 returns-clause-below g c =
@@ -28,6 +28,6 @@ returns-clause-below g c =
     subst (λ (r : Running _). c.output.result < (g.M.Machine.machine r.machine).modulus)
     c.self.view_is
     (subst (λ (o : ℕ). o < machine.modulus) (sym c.output.ensures)
-    (c.tell.ensures.shown c.args.v lt _ (state_in machine c.self.inside.script
+    (c.facts.ensures.shown c.args.v lt _ (state_in machine c.self.inside.script
     c.self.inside.states.shape c.self.inside.states.current c.args.v _ c.self.invariant.read
-    c.self.invariant.shape c.self.invariant.size c.tell-2.ensures.current lt c.state.ensures)))
+    c.self.invariant.shape c.self.invariant.size c.facts-2.ensures.current lt c.state.ensures)))

@@ -1,10 +1,10 @@
-use Rattle.std.proofs.Common.{◌+◌, List, length, refl, sym, ap, ◌∙◌, subst, arith}
+use Rattle.std.proofs.Common.{◌+◌, Bool, List, ◌∷◌, length, None, replicate, sym, ap, ◌∙◌, subst}
+use Rattle.sync_types.specs.FaultSets.{FaultIds}
 use Rattle.adversary_script.specs.Scripts.{Script}
+use Rattle.machine_runner.specs.FirstLocked.{first_of}
 use Rattle.machine_runner.specs.Laws.{IsReadFor}
-use Rattle.machine_runner.proofs.Firsts.{begun_era}
-use Rattle.machine_runner.specs.declared.stepping.Room.{Room}
-use Rattle.machine_runner.specs.Kept.{IsKept}
-use Rattle.machine_runner.proofs.Keeping.{locks_begin, first_faulty}
+use Rattle.machine_runner.specs.Locks.{is_locked}
+use Rattle.machine_runner.proofs.Keeping.{locks_begin}
 use Rattle.machine_runner.proofs.Rekeyed.{read_still, kept_anew, begun_anew}
 use Rattle.machine_runner.proofs.runners.Runner.restart.Goals as goal
 
@@ -22,12 +22,17 @@ pub start_all-requires-clause-out : goal.start_all-requires-clause-out
 start_all-requires-clause-out g c =
     c.self.invariant.ready.out ∙ sym (ap (λ (s : Script). s.shape.depth) c.set_key.ensures)
 
-pub begin_locks-requires-clause-nodes : goal.begin_locks-requires-clause-nodes
-begin_locks-requires-clause-nodes g c =
-    ap (λ (s : Script). s.nodes) c.set_key.ensures ∙ c.self.invariant.read.right.nodes
+pub is_locked-locked-requires-clause-nodes : goal.is_locked-locked-requires-clause-nodes
+is_locked-locked-requires-clause-nodes g c =
+    ap (λ (s : FaultIds). s.nodes) c.faulty.ensures
+    ∙ ap (λ (s : Script). s.nodes) c.set_key.ensures ∙ c.self.invariant.read.right.nodes
 
-pub begin_locks-requires-clause-locks : goal.begin_locks-requires-clause-locks
-begin_locks-requires-clause-locks g c =
+pub is_locked-locked-requires-clause-size : goal.is_locked-locked-requires-clause-size
+is_locked-locked-requires-clause-size g c =
+    c.start_all.ensures.size ∙ sym (ap (λ (s : FaultIds). s.nodes) c.faulty.ensures)
+
+pub begin_locks-requires : goal.begin_locks-requires
+begin_locks-requires g c =
     c.self.invariant.eras ∙ sym (ap (λ (s : Script). length s.eras + 1) c.set_key.ensures)
 
 pub invariant_of-self : goal.invariant_of-self
@@ -40,17 +45,18 @@ invariant_of-self g c =
     let started = c.start_all.ensures in
     let read : IsReadFor machine now = subst (λ (s : Script). IsReadFor machine s) (sym same)
     (read_still script c.args.key machine kept.read) in
-    let here = begun_era now read.whole.formed.rising 0 0 (omega (arith)) refl in
-    subst (λ (r : Room). IsKept machine now r c.start_all.new.states
-    c.begin_locks.new.locks.items 0 0) (sym started.same)
-    (kept_anew script c.args.key machine c.self.inside.room c.start_all.new.room.noise
-    c.start_all.new.room.out c.self.inside.states c.start_all.new.states
+    kept_anew script c.args.key machine c.self.inside.room c.start_all.new.noise
+    c.start_all.new.out c.self.inside.states c.start_all.new.states
     c.self.inside.locks.items c.begin_locks.new.locks.items c.self.inside.at c.self.inside.era now
     same kept (started.noise ∙ ap (λ (s : Script). s.key) same)
     (started.out ∙ ap (λ (s : Script). s.shape.depth) same) started.shape
     (started.size ∙ ap (λ (s : Script). s.nodes) same) started.states
-    (c.begin_locks.ensures ∙ locks_begin machine now c.start_all.new.states.current now.faulty _
-    read.whole started.states (first_faulty now here) refl))
+    (c.begin_locks.ensures
+    ∙ ap (λ (b : Bool). first_of None b 0 ∷ replicate (length now.eras) None)
+    (c.is_locked-locked.ensures
+    ∙ ap (λ (s : FaultIds). is_locked machine s.ids c.start_all.new.states.current)
+    c.faulty.ensures)
+    ∙ locks_begin machine now c.start_all.new.states.current read.whole started.states)
 
 pub returns : goal.returns
 returns g c =

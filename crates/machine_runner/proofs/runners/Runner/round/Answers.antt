@@ -1,11 +1,11 @@
-use Rattle.std.proofs.Common.{ℕ, ◌+◌, ◌<◌, List, Option, length, sym, ap, ◌∙◌, subst}
-use Rattle.std.proofs.Common.{arith}
+use Rattle.std.proofs.Common.{◌+◌, ◌<◌, List, Bool, Option, None, length, get_or, set, sym, ap, ◌∙◌}
+use Rattle.std.proofs.Common.{ℕ, subst, arith}
 use Rattle.sync_types.specs.FaultSets.{FaultIds}
 use Rattle.sync_types.specs.States.{State}
 use Rattle.state_codec.specs.Packs.{Pack}
+use Rattle.machine_runner.specs.FirstLocked.{first_of}
 use Rattle.machine_runner.specs.Runners.{Running}
 use Rattle.machine_runner.proofs.Keeping.{played_long, played_next, locks_go_on, locks_long}
-use Rattle.machine_runner.proofs.Keeping.{locked_next}
 use Rattle.machine_runner.proofs.runners.Runner.round.Goals as goal
 
 pub step_all-requires-clause-config : goal.step_all-requires-clause-config
@@ -35,11 +35,13 @@ invariant_of-self g c =
     let played = ap (λ (p : Pack). p.current) c.flip.ensures
     ∙ ap (λ (p : Pack). p.next) c.step_all.ensures.states
     ∙ played_next machine script t c.self.inside.states.current kept.played in
-    let known = locks_go_on machine script c.self.inside.locks.items t c.era_of-era.result
-    c.index.result.now (c.era_faulty-2.result.now).ids c.flip.new.self.current
-    c.locked_so_far.result kept.known c.era_of-era.ensures.value c.era_of-era.ensures.most
-    c.index.ensures (ap (λ (s : FaultIds). s.ids) c.era_faulty-2.ensures) played
-    (locked_next _ _ _ _ _ c.locked_so_far.ensures c.is_locked-locked.ensures) in
+    let known = c.note_lock.ensures
+    ∙ ap (λ (b : Bool). set c.self.inside.locks.items c.era_of-era.result
+    (first_of (get_or c.self.inside.locks.items c.era_of-era.result None) b (t + 1)))
+    c.is_locked-locked.ensures
+    ∙ locks_go_on machine script c.self.inside.locks.items t c.era_of-era.result
+    c.era_faulty-2.result.now c.flip.new.self.current kept.known c.era_of-era.ensures.value
+    c.era_faulty-2.ensures played in
     record {
       sound = kept.sound;
       read = kept.read;

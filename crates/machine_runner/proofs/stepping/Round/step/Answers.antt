@@ -16,7 +16,7 @@ advance-requires-clause-heard g c =
     subst (IsConfiguration (g.M.Machine.machine c.args.machine.now)) (sym same)
     (heard_is_one script c.args.self.now.t config c.args.v c.requires.node
     (range_of c.args.states.now.shape script.shape script.nodes config c.requires.config.shape
-    c.requires.config.size c.tell-2.ensures.current)
+    c.requires.config.size c.facts-2.ensures.current)
     (g.M.Machine.machine c.args.machine.now) c.requires.read)
 
 pub returns-clause-honest : goal.returns-clause-honest

@@ -21,7 +21,7 @@ loop-v-init g c =
     (c.lay.auto.heard ∙ c.deref_mut.ensures.len) ∙ c.lay.ensures in
     record {
       filled = none_filled (state_after machine script c.args.self.now.t config) script.nodes _
-          (c.tell.ensures.size ∙ c.requires.config.size);
+          (c.facts.ensures.size ∙ c.requires.config.size);
       fixed = refl;
       ready = record {
         noise = c.requires.room.noise;
@@ -30,7 +30,7 @@ loop-v-init g c =
           deep = subst (λ (xs : List State).
               All (λ (s : State). length s.registers ≡ script.shape.depth) xs) (sym laid)
               (all_places (λ (s : State). length s.registers ≡ script.shape.depth) config (λ u lt.
-              depth_of_node shape u _ (c.tell.ensures.current u lt)
+              depth_of_node shape u _ (c.facts.ensures.current u lt)
               ∙ ap (λ (s : Shape). s.depth) c.requires.config.shape));
         };
         work = c.requires.room.work;

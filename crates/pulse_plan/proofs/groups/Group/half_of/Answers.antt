@@ -8,7 +8,7 @@ returns-then-node-first-clause-half c = λ from.
     let group = c.args.self.now in
     let first = ap (λ (g : PulseGroup). g.first) c.right-right.ensures in
     subst (IsHalf group c.args.node) (sym c.left.ensures)
-    (left_half group c.args.node c.tell.ensures c.requires from
+    (left_half group c.args.node c.facts.ensures c.requires from
     (omega (arith, c.if-node-first.true, c.first.ensures, first)))
 
 pub returns-then-node-first-2-clause-half : goal.returns-then-node-first-2-clause-half
@@ -17,7 +17,7 @@ returns-then-node-first-2-clause-half c = λ from.
     let first = ap (λ (g : PulseGroup). g.first) c.right-right.ensures in
     let nodes = ap (λ (g : PulseGroup). g.nodes) c.right-right.ensures in
     subst (IsHalf group c.args.node) (sym c.right-right.ensures)
-    (right_half group c.args.node c.tell.ensures c.requires
+    (right_half group c.args.node c.facts.ensures c.requires
     (omega (arith, c.if-node-first.false, c.first.ensures, first))
     (omega (
       arith,

@@ -2,7 +2,7 @@ use Rattle.std.proofs.Common.{◌≡◌, ◌+◌, ◌<◌, ◌∙◌, cond, leng
 use Rattle.std.proofs.lemmas.Bool.{lt-ltb}
 use Rattle.adversary_script.specs.Eras.{era_of, first_of_era, end_of_era}
 use Rattle.round_runner.specs.Runners.{Running}
-use Rattle.round_runner.proofs.Firsts.{era_before}
+use Rattle.machine_runner.proofs.Firsts.{era_before}
 use Rattle.round_runner.proofs.runners.Runner.era_end.Goals as goal
 
 pub returns-then-behind-eras-clause-value : goal.returns-then-behind-eras-clause-value

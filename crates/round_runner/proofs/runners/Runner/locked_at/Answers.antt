@@ -5,7 +5,7 @@ use Rattle.construction.specs.Plans.{plan_bound}
 use Rattle.round_runner.specs.Laws.{IsUpTo}
 use Rattle.round_runner.specs.Locks.{IsFirstLocked}
 use Rattle.round_runner.specs.Runners.{Running, configuration_of}
-use Rattle.round_runner.proofs.Firsts.{era_before}
+use Rattle.machine_runner.proofs.Firsts.{era_before}
 use Rattle.round_runner.proofs.runners.Runner.locked_at.Goals as goal
 
 pub returns-clause-first : goal.returns-clause-first

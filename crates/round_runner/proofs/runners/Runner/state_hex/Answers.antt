@@ -20,7 +20,7 @@ write_hex-requires-clause-node g c =
     let node : c.args.v < plan_nodes c.self.inside.tower =
     subst (λ (r : Running _). c.args.v < plan_nodes r.plan) (sym c.self.view_is) c.requires.node in
     let shape = ap shape_nodes c.shape.ensures in
-    omega (arith, node, kept.size, kept.right.nodes, c.tell.ensures.few, shape)
+    omega (arith, node, kept.size, kept.right.nodes, c.facts.ensures.few, shape)
 
 pub write_hex-requires-clause-range : goal.write_hex-requires-clause-range
 write_hex-requires-clause-range g c =
@@ -31,7 +31,7 @@ write_hex-requires-clause-range g c =
     omega (arith, node, kept.size, kept.right.nodes) in
     subst (λ (s : Shape). InRange (fields_at s c.args.v) c.state.result.now) (sym c.shape.ensures)
     (subst (InRange (fields_at c.self.inside.states.shape c.args.v)) (sym c.state.ensures)
-    (c.tell.ensures.current c.args.v lt))
+    (c.facts.ensures.current c.args.v lt))
 
 pub write_hex-requires-clause-length : goal.write_hex-requires-clause-length
 write_hex-requires-clause-length g c =

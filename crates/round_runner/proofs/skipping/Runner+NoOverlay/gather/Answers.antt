@@ -15,9 +15,9 @@ use Rattle.tower.specs.Settled.{IsSettled}
 use Rattle.adversary_script.specs.Eras.{faulty_of_era, faulty_at}
 use Rattle.adversary_script.specs.Scripts.{Era, faulty_sets}
 use Rattle.round_runner.specs.Runners.{Running}
-use Rattle.round_runner.proofs.Firsts.{era_within}
+use Rattle.machine_runner.proofs.Firsts.{era_within}
 use Rattle.round_runner.proofs.Grown.{uncut_settled}
-use Rattle.round_runner.proofs.Places.{all_places}
+use Rattle.machine_runner.proofs.Places.{all_places}
 use Rattle.round_runner.proofs.skipping.Runner+NoOverlay.gather.Goals as goal
 
 pub gather-requires-clause-deep : goal.gather-requires-clause-deep
@@ -34,7 +34,7 @@ gather-requires-clause-range g c =
     all_places (IsInRange c.self.inside.tower) config (λ u lt.
     kept.fits.counts u (omega (arith, lt, kept.size, kept.right.nodes)) _
     (subst (λ (s : Shape). InRange (fields_at s u) (state_of config u)) kept.shape
-    (c.tell.ensures.current u lt)))
+    (c.facts.ensures.current u lt)))
 
 pub gather-requires-clause-ids : goal.gather-requires-clause-ids
 gather-requires-clause-ids g c =

@@ -9,10 +9,14 @@ use Rattle.state_codec.specs.Shapes.{Shape}
 use Rattle.adversary_script.specs.Eras.{era_of, end_of_era}
 use Rattle.round_runner.specs.Runners.{Running, IsPlaying}
 use Rattle.round_runner.specs.Skipping.{grown}
-use Rattle.round_runner.proofs.Firsts.{era_within, end_within}
-use Rattle.round_runner.proofs.LayerSteps.{range_of}
+use Rattle.machine_runner.proofs.Firsts.{era_within, end_within}
+use Rattle.machine_runner.proofs.Keeping.{range_of}
 use Rattle.round_runner.proofs.PlayedAhead.{bare_shape, same_era, jumps}
 use Rattle.round_runner.proofs.skipping.Runner+NoOverlay.skip.Goals as goal
+use Rattle.round_runner.proofs.skipping.Runner+NoOverlay.skip.Goals.{
+  else-at-to-via-then-at-to+else-is_settled,
+}
+use Rattle.round_runner.proofs.skipping.Runner+NoOverlay.skip.Goals.{else-at-to-via-else-at-to}
 
 pub grow-requires : goal.grow-requires
 grow-requires c =
@@ -71,7 +75,7 @@ returns-then-is_settled-clause-played c = λ began plays.
       locks = inside.locks.items;
     } in
     let range = range_of inside.states.shape script.shape script.nodes config kept.shape kept.size
-    c.tell.ensures.current in
+    c.facts.ensures.current in
     let states : c.flip.new.self.current ≡ grown script.shape script.nodes (to - inside.at) config =
     ap (λ (p : Pack). p.current) c.flip.ensures
     ∙ (ap (λ (p : Pack). p.next) c.grow.ensures.states
@@ -84,3 +88,12 @@ returns-then-is_settled-clause-played c = λ began plays.
     (omega (arith, c.min-to.ensures, c.era_end.ensures.value, c.era_end.ensures.behind))
     (c.is_settled.ensures.settled c.if-is_settled.true)
     (c.is_settled.ensures.known c.if-is_settled.true) began plays)
+
+pub returns-else-at-to-clause-played : goal.returns-else-at-to-clause-played
+returns-else-at-to-clause-played c = λ began plays.
+    let same : c.else-at-to.self ≡ c.args.self.now = elim c.else-at-to.branch [
+      | else-at-to-via-then-at-to+else-is_settled w ↦ w.self-is ∙ w.is_settled.ensures.same
+      | else-at-to-via-else-at-to w ↦ w.self-is
+    ] in
+    c.round.ensures.played began (subst
+    (λ (r : Running NoOverlay). IsPlaying (λ o. no_layer) (λ o. []) began r) (sym same) plays)

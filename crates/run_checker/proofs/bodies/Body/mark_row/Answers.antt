@@ -10,12 +10,6 @@ invariant_of-showing-clause-deep c =
     c.self.invariant.shape in
     omega (arith, deep, c.depth.ensures)
 
-pub is_locked-locked-requires-clause-deep : goal.is_locked-locked-requires-clause-deep
-is_locked-locked-requires-clause-deep c =
-    let deep = shape_has_depth c.self.inside.tower c.self.inside.config.shape
-    c.self.invariant.shape in
-    omega (arith, deep)
-
 pub returns : goal.returns
 returns c =
     let h = rw (c.depth.ensures, c.self.invariant.faulty) at c.in-Some.ensures in

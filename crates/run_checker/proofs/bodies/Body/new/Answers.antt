@@ -26,8 +26,8 @@ begin-requires-clause-nodes c =
 
 pub begin-requires-clause-room : goal.begin-requires-clause-room
 begin-requires-clause-room c =
-    let few = pairs_few c.args.plan.now c.tell.ensures.accepted c.args.faulty c.requires.nodes
-    c.tell-2.ensures c.requires.few in
+    let few = pairs_few c.args.plan.now c.facts.ensures.accepted c.args.faulty c.requires.nodes
+    c.facts-2.ensures c.requires.few in
     let room = ap (λ (t : Telling). t.room) c.in_ok-tellings.ensures in
     omega (arith, few, room)
 

@@ -26,7 +26,7 @@ begin-requires-clause-room c =
     let nodes = c.requires.nodes
     ∙ sym (ap (λ (b : BodySeen). plan_nodes b.known.plan) c.self.view_is) in
     let faults = ap (λ (b : BodySeen). plan_faults b.known.plan) c.self.view_is in
-    let few = pairs_few c.self.inside.tower c.tell.ensures c.args.faulty nodes c.tell-2.ensures
+    let few = pairs_few c.self.inside.tower c.tell.ensures c.args.faulty nodes c.facts.ensures
     (omega (arith, c.requires.few, faults)) in
     omega (arith, few, c.self.invariant.most)
 

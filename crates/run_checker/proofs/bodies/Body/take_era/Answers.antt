@@ -1,7 +1,7 @@
 use Rattle.std.proofs.Common.{ℕ, sym, ap, ap₂, ◌∙◌}
 use Rattle.sync_types.specs.FaultSets.{FaultIds}
 use Rattle.construction.specs.Plans.{plan_faults}
-use Rattle.adversary_script.specs.WordTests.{numbers_in}
+use Rattle.texts.specs.Shapes.{all_numbers}
 use Rattle.run_checker.specs.Bodies.{BodySeen}
 use Rattle.run_checker.specs.Changes.{played_into}
 use Rattle.run_checker.specs.Sets.{borne_ids}
@@ -17,8 +17,8 @@ returns c =
     let plan : BodySeen → ℕ = λ b. plan_faults b.known.plan in
     let faults = c.faults.ensures ∙ ap plan c.self.view_is
     ∙ ap plan c.next_set-faulty.ensures.counted in
-    era_taken c.args.self.now c.args.t (numbers_in c.args.words) ids c.play_into.new.self
+    era_taken c.args.self.now c.args.t (all_numbers c.args.words) ids c.play_into.new.self
     (sym c.is_putting.ensures ∙ c.if-is_putting.false)
     (sym c.may_begin.ensures ∙ c.if-not-may_begin.false)
-    (sym (ap₂ (λ (n f : ℕ). borne_ids n f (numbers_in c.args.words)) nodes faults)
+    (sym (ap₂ (λ (n f : ℕ). borne_ids n f (all_numbers c.args.words)) nodes faults)
     ∙ c.if-not-read_ids.ensures.ids) new

@@ -19,7 +19,7 @@ returns-in-Some c =
     (subst (λ (b : BodySeen). IsAccepted b.known.plan) view c.tell.ensures)
     (subst (λ (b : BodySeen). All (λ id. id < plan_nodes b.known.plan) b.known.stand.faulty) view
     (subst (λ (n : ℕ). All (λ id. id < n) c.self.inside.faulty.ids) i.faulty
-    c.tell-2.ensures.below))
+    c.facts.ensures.below))
     (sym c.is_putting.ensures ∙ c.if-is_putting.false)
     (sym c.has_round.ensures ∙ c.if-not-has_round.false)
     line digits

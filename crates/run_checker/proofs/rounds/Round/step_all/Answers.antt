@@ -17,7 +17,7 @@ gather-requires-clause-deep g c =
 pub gather-requires-clause-range : goal.gather-requires-clause-range
 gather-requires-clause-range g c =
     (pack_states c.args.self.now.tower.now c.tell.ensures c.args.config.now c.requires.config.shape
-    c.requires.config.size c.tell-2.ensures.current).range
+    c.requires.config.size c.facts.ensures.current).range
 
 pub gather-requires-clause-ids : goal.gather-requires-clause-ids
 gather-requires-clause-ids g c =
@@ -38,7 +38,7 @@ loop-v-init g c =
           none_stepped c.args.self.now.tower.now c.args.self.now.faulty.now.ids
           c.args.new_faulty.now.ids
           c.args.config.now.current c.args.self.now.told.now.states c.args.config.now.next
-          (c.tell-2.ensures.size ∙ c.requires.config.size);
+          (c.facts.ensures.size ∙ c.requires.config.size);
       fixed = refl;
       before = refl;
       room = record {

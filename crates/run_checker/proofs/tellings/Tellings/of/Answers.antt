@@ -14,7 +14,7 @@ invariant_of-result c =
     (sym c.in_ok-pairs.ensures.items)
     (none_told shape digits room
     (omega (arith, c.in_ok-pairs.ensures.capacity, c.in_ok-digits.ensures))
-    (few_bytes c.args.plan.now c.tell.ensures.accepted shape c.in_ok-shape.ensures.shape))
+    (few_bytes c.args.plan.now c.facts.ensures.accepted shape c.in_ok-shape.ensures.shape))
 
 pub returns : goal.returns
 returns c =

@@ -23,7 +23,7 @@ take_liars-requires-clause-room c =
     let size = board_size inside.nodes shows columns ids c.args.self.now c.self.view_is in
     let below = subst (λ n. All (λ id. id < n) c.args.faulty.now.ids) size c.requires.ids in
     let few = few_liars inside.nodes c.args.faulty.now.ids
-    (record { rising = c.tell.ensures.rising; below = below }) in
+    (record { rising = c.facts.ensures.rising; below = below }) in
     omega (arith, few, c.self.invariant.has_room)
 
 pub take_liars-requires-clause-size : goal.take_liars-requires-clause-size
@@ -99,7 +99,7 @@ invariant_of-self c =
     ) in
     let below = subst (λ n. All (λ id. id < n) faulty) size c.requires.ids in
     let liars : AreLiars inside.nodes faulty =
-    record { rising = c.tell.ensures.rising; below = below } in
+    record { rising = c.facts.ensures.rising; below = below } in
     let same : c.take_liars.new.ids.items ≡ faulty = c.take_liars.ensures.ids in
     let marks = ap length c.self.invariant.marked
     ∙ length-map-range_with_len (is_in inside.liars.items) 0 inside.nodes in
@@ -143,7 +143,7 @@ returns c =
     ≡ map (cut (length new_columns)) states =
     filled_states states new_columns new_shows inside.nodes filled nodes (λ v lt.
     let within : v < length states = omega (arith, lt, nodes) in
-    let moduli = (c.tell-2.ensures.current v within).depth
+    let moduli = (c.facts-2.ensures.current v within).depth
     ∙ length-map-range_with_len _ 0 c.args.config.now.shape.depth in
     omega (arith, moduli, same_depth, c.requires.deep)) in
     ap (λ ss. record {

@@ -3,7 +3,7 @@ use Rattle.counting.proofs.Places.{shorter}
 use Rattle.shared_board.specs.Senders.{is_liar}
 use Rattle.shared_board.proofs.hearing.Hearing.lies_in.Goals as goal
 
--- there are as many liars behind a stretch as before it, or more
+-- there are as many liars up to the end of a stretch as before it, or more
 pub between-requires-clause-order : goal.between-requires-clause-order
 between-requires-clause-order c =
     let s = c.args.self.now.senders.now in

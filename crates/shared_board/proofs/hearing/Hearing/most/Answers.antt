@@ -25,7 +25,7 @@ most-requires g c =
       c.requires.room,
     )
 
--- the numbers of the correct nodes and those told
+-- the numbers of the correct nodes and of the lies
 pub returns-in-None : goal.returns-in-None
 returns-in-None g c =
     let at = c.args.self.now in

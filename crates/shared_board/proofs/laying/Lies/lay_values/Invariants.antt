@@ -2,7 +2,7 @@ use Rattle.std.proofs.Common.{◌≡◌, ◌+◌, ◌++◌, map, take}
 use Rattle.sync_types.specs.States.{register_at}
 use Rattle.shared_board.proofs.laying.Lies.lay_values.Given as goal
 
--- those of the lies so far stand behind what was there
+-- those of the lies so far stand after what was there
 abbrev pub invariant-loop-lie : goal.invariant-loop-lie
 invariant-loop-lie g l =
     (l.poll ≡ record l.initial.poll {

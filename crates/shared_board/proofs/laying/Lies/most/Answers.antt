@@ -43,7 +43,7 @@ loop-lie-preserved g c = λ k lt.
     ∙ c.if-is_above.false)))
     (λ le. le) (cases_lt half (count_of all (Some c.of-number.result))) in
     let is : Some c.of-number.result ≡ get_or (map read lies) at None =
-    ap Some (c.of-number.ensures ∙ ap (g.R.Reading.reads c.args.reading.now) c.shown_to.ensures)
+    ap Some (c.of-number.ensures ∙ ap (g.R.Reading.reads c.args.reading.now) c.shown.ensures)
     ∙ (ap read c.lie-item.is
     ∙ sym (get_or-map read lies at c.lie-item.result None (omega (
       arith,

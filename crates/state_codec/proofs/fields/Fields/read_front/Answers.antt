@@ -15,7 +15,7 @@ use Rattle.state_codec.proofs.Ranged.{read_is_in_range}
 use Rattle.state_codec.proofs.RegisterSteps.{state_is}
 use Rattle.state_codec.proofs.fields.Fields.read_front.Goals as goal
 
--- a register more is that of a state
+-- one more register is that of a state
 register_more : (rs after : List Reg) (state : State) (i : ℕ) (r : Reg) → i < length rs
     → after ≡ set rs i r → r ≡ register_at i state
     → ((j : ℕ) → j < i → register_at j (record { x = 0; registers = rs }) ≡ register_at j state)
@@ -92,7 +92,7 @@ returns-clause-value c =
     let state : State = read fields (take (bytes_in fields) c.args.bytes.now) in
     let moduli = ap (λ (f : Fields). length f.moduli) c.self.view_is in
     let range = read_is_in_range fields
-    (take (bytes_in fields) c.args.bytes.now) c.tell.ensures in
+    (take (bytes_in fields) c.args.bytes.now) c.facts.ensures in
     state_is c.loop-i.out state.x state.registers i.number
     (ext_get_or zero_register c.loop-i.out.registers state.registers (i.depth ∙ sym range.depth)
     (λ j lt. i.registers j (omega (arith, moduli, lt, i.depth, c.loop-i-test.false))))
@@ -104,7 +104,7 @@ returns-clause-range c =
     let state : State = read fields (take (bytes_in fields) c.args.bytes.now) in
     let moduli = ap (λ (f : Fields). length f.moduli) c.self.view_is in
     let range = read_is_in_range fields
-    (take (bytes_in fields) c.args.bytes.now) c.tell.ensures in
+    (take (bytes_in fields) c.args.bytes.now) c.facts.ensures in
     subst (InRange fields) (sym (state_is c.loop-i.out state.x state.registers i.number
     (ext_get_or zero_register c.loop-i.out.registers state.registers (i.depth ∙ sym range.depth)
     (λ j lt. i.registers j (omega (arith, moduli, lt, i.depth, c.loop-i-test.false)))))) range

@@ -14,10 +14,10 @@ invariant_of-result c =
     let one = ap (λ (xs : List State). length xs) first ∙ length-replicate c.args.nodes zero in
     let two = ap (λ (xs : List State). length xs) second ∙ length-replicate c.args.nodes zero in
     record {
-      sound = c.tell.ensures;
+      sound = c.facts.ensures;
       few = omega (arith, one, c.requires);
       most = omega (arith, one, c.requires, c.nodes-most.ensures.value, c.nodes-most.ensures.most);
       size = two ∙ sym one;
-      current = subst (AreOfShape shape) (sym first) (zeros_in_range shape c.tell.ensures _);
-      next = subst (AreOfShape shape) (sym second) (zeros_in_range shape c.tell.ensures _);
+      current = subst (AreOfShape shape) (sym first) (zeros_in_range shape c.facts.ensures _);
+      next = subst (AreOfShape shape) (sym second) (zeros_in_range shape c.facts.ensures _);
     }

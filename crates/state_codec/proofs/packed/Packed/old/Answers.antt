@@ -9,5 +9,5 @@ copy_from-requires c =
     ap (λ (s : State). length s.registers) c.state.ensures
     ∙
     (depth_in_range c.args.self.now.shape c.args.v _
-    (c.tell.ensures.current c.args.v c.requires.node)
+    (c.facts.ensures.current c.args.v c.requires.node)
     ∙ sym c.requires.depth)

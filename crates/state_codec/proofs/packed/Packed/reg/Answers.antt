@@ -10,5 +10,5 @@ reg-requires c = omega (
   c.requires.register,
   ap (λ (s : State). length s.registers) c.state.ensures,
   depth_in_range c.args.self.now.shape c.args.v _
-      (c.tell.ensures.current c.args.v c.requires.node),
+      (c.facts.ensures.current c.args.v c.requires.node),
 )

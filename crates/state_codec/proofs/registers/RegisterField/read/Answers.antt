@@ -16,7 +16,7 @@ use Rattle.state_codec.proofs.RegisterSteps.{value_with_mark}
 use Rattle.state_codec.proofs.Windows.{field}
 use Rattle.state_codec.proofs.registers.RegisterField.read.Goals as goal
 
--- the word behind the field is shifted out, and what stands before it masked
+-- the word after the field is shifted out, and what stands before it masked
 pub returns : goal.returns
 returns c =
     let bytes = c.args.bytes.now in

@@ -9,7 +9,7 @@ use Rattle.tower.proofs.groups.Placed.register.Goals as goal
 pub register-requires-clause-told : goal.register-requires-clause-told
 register-requires-clause-told g c =
     subst (λ (s : Sent). IsTold s c.args.lies.now) (sym c.senders-senders.ensures)
-    (told_is c.args.board.now c.self.inside.height c.tell.ensures.liars c.args.lies.now
+    (told_is c.args.board.now c.self.inside.height c.facts.ensures.liars c.args.lies.now
     c.requires.told)
 
 pub returns-clause-register : goal.returns-clause-register
@@ -34,6 +34,6 @@ returns-clause-steps g c =
       arith,
       c.register.ensures.steps,
       e,
-      few_in board p.height c.tell.ensures.liars first
+      few_in board p.height c.facts.ensures.liars first
           nodes within,
     )

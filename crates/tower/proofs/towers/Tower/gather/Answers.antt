@@ -101,7 +101,7 @@ returns-clause-cost g c =
     ap (λ (b : Board). b.faulty) c.take.ensures in
     let rising = subst (λ ids. AreLiars (nodes_of levels) ids) (sym faulty)
     (record {
-      rising = c.tell.ensures.rising;
+      rising = c.facts.ensures.rising;
       below =
           subst (λ n. All (λ id. id < n) c.args.faulty.now.ids) (sym nodes) c.requires.ids;
     }) in

@@ -1,5 +1,5 @@
 use Rattle.std.proofs.Common.{◌≡◌, ℕ, ◌*◌, List, take, map, ap, ◌∙◌, subst}
-use Rattle.texts.proofs.Growth.{puts_exit, puts_then, cut_more, cut_then}
+use Rattle.edge_io.proofs.Writing.{writes_is, writes_then}
 use Rattle.sync_types.specs.States.{State}
 use Rattle.construction.specs.Shown.{shown}
 use Rattle.plan_numbers.specs.Numbers.{level_of}
@@ -8,7 +8,6 @@ use Rattle.boost_step.specs.Numbers.{in_blocks}
 use Rattle.boost_step.proofs.Numbers.{related}
 use Rattle.traces.specs.LevelTexts.{votes_part, turn_part}
 use Rattle.traces.specs.Places.{Placed}
-use Rattle.trace_words.proofs.LineParts.{wrote_as, cut_as}
 use Rattle.traces.proofs.places.Place.put_heard.Goals as goal
 
 -- what is laid out is what the nodes of the blocks show
@@ -21,34 +20,6 @@ laid_is l blocks n size items group same is =
 pub block_nodes-requires : goal.block_nodes-requires
 block_nodes-requires g c = (related c.self.inside.nums.now c.self.invariant.numbers).sized
 
-pub returns-in_err-put_votes-clause-part : goal.returns-in_err-put_votes-clause-part
-returns-in_err-put_votes-clause-part g c =
-    let nums = c.args.self.now.nums in
-    let laid = subst (λ (p : Placed). take (in_blocks p.nums) c.set_outputs.new.work.outputs.items
-    ≡ map (shown p.below) (take (in_blocks p.nums) p.group)) c.self.view_is
-    (laid_is c.self.inside.below c.self.inside.nums.now.blocks _ _ _ c.self.inside.group.now
-    c.block_nodes.ensures c.set_outputs.ensures.outputs) in
-    puts_exit _ _ _ _ _ c.from_residual.ensures.1
-    (cut_more _ _ _ _ (cut_as _ _ _ _ (ap (votes_part (block_nodes nums) (level_of nums)) laid)
-    c.in_err-put_votes.ensures.part))
-
-pub returns-in_err-put_turn-clause-part : goal.returns-in_err-put_turn-clause-part
-returns-in_err-put_turn-clause-part g c =
-    let nums = c.args.self.now.nums in
-    let first = c.args.self.now.first in
-    let laid = subst (λ (p : Placed). take (in_blocks p.nums) c.set_outputs.new.work.outputs.items
-    ≡ map (shown p.below) (take (in_blocks p.nums) p.group)) c.self.view_is
-    (laid_is c.self.inside.below c.self.inside.nums.now.blocks _ _ _ c.self.inside.group.now
-    c.block_nodes.ensures c.set_outputs.ensures.outputs) in
-    let still = ap (λ o. take (in_blocks nums) o.items) c.put_votes.ensures.work.outputs ∙ laid in
-    puts_exit _ _ _ _ _ c.from_residual-in_err-put_turn.ensures.1
-    (cut_then _ _ _ _ _
-    (wrote_as _ _ _ _ (ap (votes_part (block_nodes nums) (level_of nums)) laid)
-    c.in_ok-put_votes.ensures.part)
-    (cut_more _ _ _ _
-    (cut_as _ _ _ _ (ap (turn_part (block_nodes nums) (level_of nums) first) still)
-    c.in_err-put_turn.ensures.part)))
-
 pub returns-clause-part : goal.returns-clause-part
 returns-clause-part g c =
     let nums = c.args.self.now.nums in
@@ -58,10 +29,10 @@ returns-clause-part g c =
     (laid_is c.self.inside.below c.self.inside.nums.now.blocks _ _ _ c.self.inside.group.now
     c.block_nodes.ensures c.set_outputs.ensures.outputs) in
     let still = ap (λ o. take (in_blocks nums) o.items) c.put_votes.ensures.work.outputs ∙ laid in
-    puts_then _ _ _ _ _ _
-    (wrote_as _ _ _ _ (ap (votes_part (block_nodes nums) (level_of nums)) laid)
-    c.in_ok-put_votes.ensures.part)
-    (puts_then _ _ _ _ _ _
-    (wrote_as _ _ _ _ (ap (turn_part (block_nodes nums) (level_of nums) first) still)
-    c.in_ok-put_turn.ensures.part)
+    writes_then
+    (writes_is (ap (votes_part (block_nodes nums) (level_of nums)) laid)
+    c.put_votes.ensures.part)
+    (writes_then
+    (writes_is (ap (turn_part (block_nodes nums) (level_of nums) first) still)
+    c.put_turn.ensures.part)
     c.put_counts.ensures.part)

@@ -1,0 +1,16 @@
+//! The laws of searches and of draws. The functions are empty: their clauses are the laws.
+
+ghost use Rattle.attack.specs.DrawsWorked.{DrawsAreWorked};
+ghost use Rattle.attack.specs.SearchLaws.{SearchesFindBest};
+
+/// What a search finds is one of its tries, whose text is read as a script for the machine, with
+/// few faulty nodes in each era. Its first locked configuration is the one that is stated, and no
+/// try that was played locks later. If it finds none, each try was refused.
+pub fn searches_find_best()
+    ensures { SearchesFindBest }
+{}
+
+/// The first two numbers that are drawn with seed 0 are those of SplitMix64.
+pub fn draws_are_worked()
+    ensures { DrawsAreWorked }
+{}

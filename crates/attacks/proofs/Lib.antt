@@ -1,4 +1,0 @@
-pub mod Ranges
-pub mod BestOfTries
-pub mod FirstLock
-pub mod DrawsWorked

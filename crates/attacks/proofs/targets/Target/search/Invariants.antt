@@ -1,9 +1,0 @@
-use Rattle.std.proofs.Common.{◌≡◌}
-use Rattle.attacks.specs.Searches.{searched}
-use Rattle.attacks.proofs.targets.Target.search.Given as goal
-
-abbrev pub invariant-loop-index : goal.invariant-loop-index
-invariant-loop-index g l =
-    l.best
-    ≡ searched (g.M.Machine.machine l.self.machine) l.self.shape l.self.first_line
-    (g.K.Maker.made l.maker) l.index

@@ -1,0 +1,11 @@
+use Rattle.std.proofs.Common.{[]}
+use Rattle.texts.proofs.Growth.{wrote_then, cut_more}
+use Rattle.edge_io.specs.Rising.{labelled_text}
+use Rattle.edge_io.proofs.writer.WriterTextSink.rising.Goals as goal
+
+pub returns-in-Err : goal.returns-in-Err
+returns-in-Err g c = cut_more _ _ [] (labelled_text c.args.number.now) c.in-Err.ensures.puts
+
+pub returns : goal.returns
+returns g c = wrote_then _ _ _ [] (labelled_text c.args.number.now) c.in-Ok.ensures.puts
+    c.hold_rising.ensures.wrote

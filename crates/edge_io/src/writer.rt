@@ -1,0 +1,333 @@
+ghost use Rattle.std.specs.Prelude.{◌≡◌, ◌≤◌, length};
+
+use crate::places::place;
+use crate::rising::MOST_RISING;
+use crate::{Failed, Piece, RisingText, Sink, TextSink, WriteFault, put_all, put_pieces};
+use itoa::Buffer;
+
+/// How many bytes are held back at most.
+const ROOM: usize = 8192;
+
+/// The digits of the longest number.
+const MOST_DIGITS: usize = 20;
+
+/// What a text is written by: it gathers bytes in a buffer of 8192 bytes of its own, passes them on
+/// to the sink that it was lent only when that is full and at `finish`, and keeps whether a write
+/// failed. It takes no memory.
+///
+/// Its calls answer nothing, so that who writes a text by many of them has no exits of his own:
+/// after a write that failed they do nothing. `finish` passes on what is held back, and answers the
+/// fault. Bytes that are held back when it is dropped are lost.
+#[derive(Drop)]
+pub struct Writer<'a, K> {
+    sink: &'a mut K,
+    end: usize,
+    at: usize,
+    failed: bool,
+    buffer: [u8; ROOM],
+    ghost within: { at ≤ end },
+    ghost room: { end ≤ length buffer },
+    ghost size: { length buffer ≡ 8192 },
+}
+
+impl<'a, K: Sink> Writer<'a, K> {
+    ghost use Rattle.std.specs.Prelude.{◌≡◌, ◌+◌, [], ◌∷◌, ◌++◌, ◌<◌, ◌≤◌, List, ℕ, length, take};
+    ghost use Rattle.std.specs.Prelude.{decimal, OnOk};
+    ghost use Rattle.texts.specs.Growth.{SinkState, Wrote, Puts, gathering};
+    ghost use Rattle.edge_io.specs.Gathering.{gathered_told, held};
+    ghost use Rattle.edge_io.specs.Pieces.{pieces_text};
+    ghost use Rattle.edge_io.specs.Rising.{labelled_text};
+    ghost use Rattle.edge_io.specs.Writing.{Writes, IsFresh, Finishes};
+
+    /// A writer of texts to this sink.
+    pub fn new(sink: &'a mut K) -> Writer<'a, K>
+        ensures { IsFresh K.told sink.entry.ghost_name (K.told sink.old) result }
+    {
+        Writer {
+            sink,
+            buffer: [0; ROOM],
+            at: 0,
+            end: 0,
+            failed: false,
+        }
+    }
+
+    /// Whether a write failed.
+    pub fn has_failed(&self) -> bool
+        ensures { result ≡ self.now.failed }
+    {
+        self.failed
+    }
+
+    /// Writes all of the bytes.
+    pub fn text(&mut self, bytes: &[u8])
+        ensures { Writes K.told bytes.now self.old self.new }
+    {
+        if !self.failed {
+            self.failed = TextSink::text(self, bytes).is_err();
+        }
+    }
+
+    /// Writes one byte.
+    pub fn byte(&mut self, byte: u8)
+        ensures { Writes K.told (byte ∷ []) self.old self.new }
+    {
+        if !self.failed {
+            self.failed = TextSink::byte(self, byte).is_err();
+        }
+    }
+
+    /// Writes the decimal digits of a number.
+    pub fn number(&mut self, value: u64)
+        ensures { Writes K.told (decimal value) self.old self.new }
+    {
+        if !self.failed {
+            self.failed = TextSink::number(self, value).is_err();
+        }
+    }
+
+    /// Writes the bytes of a label, and after them the decimal digits of a number.
+    pub fn labelled(&mut self, label: &[u8], value: u64)
+        ensures { Writes K.told (label.now ++ decimal value) self.old self.new }
+    {
+        if !self.failed {
+            self.failed = TextSink::labelled(self, label, value).is_err();
+        }
+    }
+
+    /// Writes a number that rises, with its label.
+    pub fn rising(&mut self, number: &RisingText)
+        ensures { Writes K.told (labelled_text number.now) self.old self.new }
+    {
+        if !self.failed {
+            self.failed = TextSink::rising(self, number).is_err();
+        }
+    }
+
+    /// Writes the pieces, one after the other.
+    pub fn pieces(&mut self, pieces: &[Piece<'_>])
+        ensures { Writes K.told (pieces_text pieces.now) self.old self.new }
+    {
+        if !self.failed {
+            self.failed = put_pieces(self, pieces).is_err();
+        }
+    }
+
+    /// Ends the text: passes on all that is held back.
+    ///
+    /// `WriteFault` comes exactly if a write failed, here or before.
+    pub fn finish(&mut self) -> Result<(), WriteFault>
+        ensures { Finishes K.told result self.old self.new }
+    {
+        if !self.failed {
+            self.failed = self.flush().is_err();
+        }
+        if self.failed { Err(WriteFault) } else { Ok(()) }
+    }
+
+    /// The same, for calls that take it as a sink and answer each fault.
+    pub fn gathering(sink: &'a mut K) -> Writer<'a, K>
+        ensures same_reference { result.sink.ghost_name ≡ sink.entry.ghost_name }
+        ensures told { gathered_told K.told result
+            ≡ gathering sink.entry.ghost_name [] (K.told sink.old) }
+        ensures behind { result.sink.now ≡ sink.old }
+    {
+        Writer {
+            sink,
+            buffer: [0; ROOM],
+            at: 0,
+            end: 0,
+            failed: false,
+        }
+    }
+
+    /// Passes on all that is held back.
+    ///
+    /// `WriteFault` comes only if the sink behind counted one fault; what it did not take is still
+    /// held back.
+    pub fn flush(&mut self) -> Result<(), WriteFault>
+        ensures same_reference { self.new.sink.ghost_name ≡ self.old.sink.ghost_name }
+        ensures puts { Puts result [] (gathered_told K.told self.old)
+            (gathered_told K.told self.new) }
+        ensures none_held { OnOk result (held self.new ≡ []) }
+        ensures room { OnOk result (self.new.end ≡ 0) }
+    {
+        while self.at < self.end {
+            let buffer: &[u8] = &self.buffer;
+            match self.sink.write(&buffer[self.at..self.end]) {
+                Ok(count) => self.at += count,
+                Err(Failed) => return Err(WriteFault),
+            }
+        }
+        self.at = 0;
+        self.end = 0;
+        Ok(())
+    }
+
+    /// Ends a text: if all of it was written here, passes on all that is held back. If not, answers
+    /// that fault again.
+    pub fn finish_with(&mut self, written: Result<(), WriteFault>) -> Result<(), WriteFault>
+        ensures same_reference { self.new.sink.ghost_name ≡ self.old.sink.ghost_name }
+        ensures puts { (text : List ℕ) (start : SinkState)
+            → Puts written text start (gathered_told K.told self.old)
+            → Puts result text start (gathered_told K.told self.new) }
+        ensures none_held { OnOk result (held self.new ≡ []) }
+    {
+        match written {
+            Ok(()) => self.flush(),
+            Err(WriteFault) => Err(WriteFault),
+        }
+    }
+
+    /// Makes room for so many bytes.
+    fn make_room(&mut self, count: usize) -> Result<(), WriteFault>
+        requires few { count ≤ 8192 }
+        ensures same_reference { self.new.sink.ghost_name ≡ self.old.sink.ghost_name }
+        ensures puts { Puts result [] (gathered_told K.told self.old)
+            (gathered_told K.told self.new) }
+        ensures room { OnOk result (self.new.end + count ≤ length self.new.buffer) }
+    {
+        if count <= ROOM - self.end {
+            return Ok(());
+        }
+        self.flush()
+    }
+
+    /// Holds a byte.
+    fn hold_byte(&mut self, byte: u8)
+        requires room { self.old.end < length self.old.buffer }
+        ensures same_reference { self.new.sink.ghost_name ≡ self.old.sink.ghost_name }
+        ensures wrote { Wrote (byte ∷ []) (gathered_told K.told self.old)
+            (gathered_told K.told self.new) }
+    {
+        let at = self.end;
+        place(&mut self.buffer, at, &[byte]);
+        self.end = at + 1;
+    }
+
+    /// Holds all of the bytes.
+    fn hold_all(&mut self, bytes: &[u8])
+        requires room { self.old.end + length bytes.now ≤ length self.old.buffer }
+        ensures same_reference { self.new.sink.ghost_name ≡ self.old.sink.ghost_name }
+        ensures wrote { Wrote bytes.now (gathered_told K.told self.old)
+            (gathered_told K.told self.new) }
+        ensures end { self.new.end ≡ self.old.end + length bytes.now }
+    {
+        let at = self.end;
+        place(&mut self.buffer, at, bytes);
+        self.end = at + bytes.len();
+    }
+
+    /// Holds the digits of a number.
+    fn hold_number(&mut self, value: u64)
+        requires room { self.old.end + 20 ≤ length self.old.buffer }
+        ensures same_reference { self.new.sink.ghost_name ≡ self.old.sink.ghost_name }
+        ensures wrote { Wrote (decimal value) (gathered_told K.told self.old)
+            (gathered_told K.told self.new) }
+    {
+        if value < 10 {
+            self.hold_byte(b'0' + value as u8);
+        } else {
+            let mut digits = Buffer::new();
+            self.hold_all(digits.format(value).as_bytes());
+        }
+    }
+
+    /// Holds a number that rises, with its label.
+    fn hold_rising(&mut self, number: &RisingText)
+        requires room { self.old.end + 32 ≤ length self.old.buffer }
+        ensures same_reference { self.new.sink.ghost_name ≡ self.old.sink.ghost_name }
+        ensures wrote { Wrote (labelled_text number.now) (gathered_told K.told self.old)
+            (gathered_told K.told self.new) }
+    {
+        self.end = number.place_in(&mut self.buffer, self.end);
+    }
+
+    /// Holds as many of the bytes as there is room for.
+    fn hold(&mut self, bytes: &[u8]) -> usize
+        requires some { 0 < length bytes.now }
+        requires room { self.old.end < length self.old.buffer }
+        ensures same_reference { self.new.sink.ghost_name ≡ self.old.sink.ghost_name }
+        ensures least { 0 < result }
+        ensures most { result ≤ length bytes.now }
+        ensures wrote { Wrote (take result bytes.now) (gathered_told K.told self.old)
+            (gathered_told K.told self.new) }
+    {
+        let room = self.buffer.len() - self.end;
+        let count = if bytes.len() < room {
+            bytes.len()
+        } else {
+            room
+        };
+        place(&mut self.buffer, self.end, &bytes[..count]);
+        self.end += count;
+        count
+    }
+}
+
+impl<'a, K: Sink> Sink for Writer<'a, K> {
+    ghost use Rattle.edge_io.specs.Gathering.{gathered_told};
+
+    ghost told = { λ g. gathered_told K.told g };
+
+    fn write(&mut self, bytes: &[u8]) -> Result<usize, Failed> {
+        match self.make_room(1) {
+            Ok(()) => Ok(self.hold(bytes)),
+            Err(WriteFault) => Err(Failed),
+        }
+    }
+}
+
+impl<'a, K: Sink> TextSink for Writer<'a, K> {
+    fn text(&mut self, bytes: &[u8]) -> Result<(), WriteFault> {
+        if bytes.len() > ROOM {
+            return put_all(self, bytes);
+        }
+        match self.make_room(bytes.len()) {
+            Ok(()) => {}
+            Err(WriteFault) => return Err(WriteFault),
+        }
+        self.hold_all(bytes);
+        Ok(())
+    }
+
+    fn number(&mut self, value: u64) -> Result<(), WriteFault> {
+        match self.make_room(MOST_DIGITS) {
+            Ok(()) => {}
+            Err(WriteFault) => return Err(WriteFault),
+        }
+        self.hold_number(value);
+        Ok(())
+    }
+
+    fn labelled(&mut self, label: &[u8], value: u64) -> Result<(), WriteFault> {
+        if label.len() > ROOM - MOST_DIGITS {
+            return put_pieces(self, &[Piece::Text(label), Piece::Number(value)]);
+        }
+        match self.make_room(label.len() + MOST_DIGITS) {
+            Ok(()) => {}
+            Err(WriteFault) => return Err(WriteFault),
+        }
+        self.hold_all(label);
+        self.hold_number(value);
+        Ok(())
+    }
+
+    fn byte(&mut self, byte: u8) -> Result<(), WriteFault> {
+        match self.make_room(1) {
+            Ok(()) => {}
+            Err(WriteFault) => return Err(WriteFault),
+        }
+        self.hold_byte(byte);
+        Ok(())
+    }
+
+    fn rising(&mut self, number: &RisingText) -> Result<(), WriteFault> {
+        match self.make_room(MOST_RISING) {
+            Ok(()) => {}
+            Err(WriteFault) => return Err(WriteFault),
+        }
+        self.hold_rising(number);
+        Ok(())
+    }
+}

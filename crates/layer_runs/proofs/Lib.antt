@@ -1,2 +1,0 @@
-pub mod LowestCorrect
-pub mod Playing

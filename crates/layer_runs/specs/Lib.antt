@@ -1,3 +1,0 @@
-pub mod Scenes
-pub mod Positions
-pub mod Lowest

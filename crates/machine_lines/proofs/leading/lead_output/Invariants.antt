@@ -1,5 +1,0 @@
-use Rattle.machine_lines.proofs.Counted.{AreFaulty}
-use Rattle.machine_lines.proofs.leading.lead_output.Given as goal
-
-abbrev pub invariant-loop-v : goal.invariant-loop-v
-invariant-loop-v g l = AreFaulty l.runner.script l.runner.at l.v

@@ -1,4 +1,0 @@
-pub mod RunTexts
-pub mod HoldTexts
-pub mod Counting
-pub mod Laws

@@ -1,0 +1,41 @@
+use Rattle.std.proofs.Common.{◌≡◌, ℕ, ◌+◌, Option, length, ap, ◌∙◌, arith}
+use Rattle.std.specs.List.{flat_map, range_with_len}
+use Rattle.edge_io.proofs.Writing.{writes_none, writes_next, writes_is}
+use Rattle.adversary_script.specs.Scripts.{Script}
+use Rattle.machine_runner.specs.RunTexts.{locked_line, era_line}
+use Rattle.machine_runner.proofs.LockLines.{one_line, many}
+use Rattle.machine_runner.specs.ShownTexts.{lock_played}
+use Rattle.machine_runner.proofs.Counted.{known_at_end}
+use Rattle.machine_runner.proofs.lock_lines.put_locks.Goals as goal
+
+pub returns-then-version-eq1 : goal.returns-then-version-eq1
+returns-then-version-eq1 g c =
+    let r = c.args.runner.now in
+    let version = c.version.ensures ∙ ap (λ (s : Script). s.version) c.script.ensures in
+    let known = c.lock_of.ensures
+    ∙ known_at_end g.M.Machine.machine r c.facts.ensures.read.whole c.facts.ensures.within
+    c.requires 0 in
+    writes_is (ap (λ (o : Option ℕ). locked_line o) known
+    ∙ one_line r.script (lock_played (g.M.Machine.machine r.machine) r.script) _ version
+    c.if-version-eq1.true) c.put_locked.ensures
+
+pub loop-era-init : goal.loop-era-init
+loop-era-init g c = writes_none
+
+pub loop-era-preserved : goal.loop-era-preserved
+loop-era-preserved g c =
+    let r = c.args.runner.now in
+    writes_next (era_line r.script (lock_played (g.M.Machine.machine r.machine) r.script)) 0
+    c.loop-era.era c.loop-era.era c.loop-era.invariant c.put_era.ensures (omega arith)
+
+pub returns : goal.returns
+returns g c =
+    let r = c.args.runner.now in
+    let lock = lock_played (g.M.Machine.machine r.machine) r.script in
+    let version = c.version.ensures ∙ ap (λ (s : Script). s.version) c.script.ensures in
+    let size = c.eras-era-end.ensures.value
+    ∙ ap (λ (s : Script). length s.eras + 1) c.script-2.ensures in
+    let end : c.loop-era.era ≡ length r.script.eras + 1 =
+    omega (arith, c.loop-era.auto.era-end, c.loop-era-test.false, size) in
+    writes_is (ap (λ (n : ℕ). flat_map (era_line r.script lock) (range_with_len 0 n)) end
+    ∙ many r.script lock _ version c.if-version-eq1.false) c.loop-era.invariant

@@ -1,5 +1,0 @@
-use Rattle.plan_machine.proofs.Sound.{accepted_are_sound}
-use Rattle.plan_machine.proofs.plan_machines.PlanMachineMachine.tell.Goals as goal
-
-pub returns : goal.returns
-returns c = rw (← c.self.view_is) (accepted_are_sound _ c.self.invariant.accepted)

@@ -1,0 +1,4 @@
+pub mod Asked
+pub mod Conduct
+pub mod Errors
+pub mod Telling

@@ -1,9 +1,0 @@
-pub mod Bits
-pub mod Kept
-pub mod Made
-pub mod Alike
-pub mod Lists
-pub mod Stretches
-pub mod Written
-pub mod Depths
-pub mod Heard

@@ -1,4 +1,0 @@
-pub mod PulseWords
-pub mod NodePromises
-pub mod PulseShapes
-pub mod HeaderTexts

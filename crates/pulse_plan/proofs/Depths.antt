@@ -1,0 +1,18 @@
+-- A state that has all registers of a group has those of its halves.
+use Rattle.std.proofs.Common.{◌+◌, ◌<◌, ◌≤◌, length, arith}
+use Rattle.sync_types.specs.States.{State}
+use Rattle.pulse_plan.specs.Groups.{PulseGroup, left_of, right_of}
+use Rattle.pulse_plan.proofs.Fitting.{four_before_end, left_end, right_end}
+use Rattle.pulse_plan.specs.MachineGroups.{HasGroup}
+
+pub four_deep : (group : PulseGroup) (s : State) → 0 < group.faults → HasGroup group s
+    → group.register + 4 ≤ length s.registers
+four_deep group s some deep = omega (arith, four_before_end group some, deep)
+
+pub left_deep : (group : PulseGroup) (s : State) → 0 < group.faults → HasGroup group s
+    → HasGroup (left_of group) s
+left_deep group s some deep = omega (arith, left_end group some, deep)
+
+pub right_deep : (group : PulseGroup) (s : State) → 0 < group.faults → HasGroup group s
+    → HasGroup (right_of group) s
+right_deep group s some deep = omega (arith, right_end group some, deep)

@@ -1,0 +1,45 @@
+-- A state of a node of a pulse plan takes some bits, and has few registers.
+use Rattle.std.proofs.Common.{ℕ, zero, suc, ◌+◌, ◌-◌, ◌*◌, ◌/◌, ◌^◌, ◌<◌, ◌≤◌, List, ◌∷◌}
+use Rattle.std.proofs.Common.{sym, subst, arith}
+use Rattle.state_codec.specs.Shapes.{Fields, fields_at, registers_bits, bits_in}
+use Rattle.state_codec.proofs.RegisterSteps.{registers_bits-cons}
+use Rattle.node_words.proofs.StateDigits.{wide, some_register}
+use Rattle.pulse_plan.specs.Halvings.{Halving, One, Split, halving_height, halved_within}
+use Rattle.pulse_plan.specs.Runs.{all_fields}
+use Rattle.pulse_plan.specs.Plans.{PulseNumbers, IsAccepted, tree_of}
+use Rattle.pulse_texts.specs.PulseShapes.{shape_of}
+use Rattle.pulse_texts.proofs.Shaped.{fields_are}
+
+first_counts : (c : ℕ) (cs : List ℕ) → 2 ≤ c → 0 < registers_bits (c ∷ cs)
+first_counts c cs two = omega (arith, registers_bits-cons c cs, some_register c two)
+
+-- the top register of a group takes some, and the number of a single node
+some_bits : (tree : Halving) (c v : ℕ) → 2 ≤ c → c ≤ 2 ^ 40 → 0 < bits_in (all_fields tree c v)
+some_bits One c v two most = omega (arith, wide c two most)
+some_bits (Split left right spares) c v two most =
+    let some : 0 < registers_bits (all_fields (Split left right spares) c v).moduli =
+    first_counts c _ two in
+    omega (arith, some)
+
+-- a tree within a height is no higher
+height_most : (height f spares : ℕ) → halving_height (halved_within height f spares) ≤ height
+height_most zero f spares = omega arith
+height_most (suc height) zero spares = omega arith
+height_most (suc height) (suc f) spares =
+    let left = height_most height ((f + 1) / 3) 0 in
+    let right = height_most height (f - (f + 1) / 3) 0 in
+    omega (arith, left, right)
+
+pub some_bits_at : (plan : PulseNumbers) → IsAccepted plan → (v : ℕ) → v < plan.nodes
+    → 0 < bits_in (fields_at (shape_of plan) v)
+some_bits_at plan accepted v lt =
+    subst (λ (f : Fields). 0 < bits_in f) (sym (fields_are plan accepted v lt))
+    (some_bits (tree_of plan) plan.modulus v accepted.least_modulus accepted.most_modulus)
+
+-- a level has four registers, and single nodes have none
+pub few_registers : (plan : PulseNumbers) → IsAccepted plan → (shape_of plan).depth ≤ 340
+few_registers plan accepted =
+    let high = height_most plan.faults plan.faults (plan.nodes - (3 * plan.faults + 1)) in
+    let quorum = accepted.quorum in
+    let nodes = accepted.most_nodes in
+    omega (arith, high, quorum, nodes)

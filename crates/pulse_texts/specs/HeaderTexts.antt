@@ -1,0 +1,32 @@
+-- The text of a header of a node of a pulse plan, which is read back.
+use Rattle.std.specs.Prelude.{◌≡◌, ℕ, ◌^◌, ◌<◌, List, ◌++◌, Bool, Ok}
+use Rattle.texts.specs.Lines.{lines_of}
+use Rattle.texts.specs.Limits.{room_of, behind_lines}
+use Rattle.sync_types.specs.States.{State}
+use Rattle.machines.specs.Machines.{IsState}
+use Rattle.node_words.specs.HeaderParts.{HeaderOf, header_in}
+use Rattle.node_words.specs.WrittenHeaders.{PlanText, text_of_header, stated_header}
+use Rattle.pulse_plan.specs.Plans.{PulseNumbers, IsAccepted}
+use Rattle.pulse_plan.specs.Laws.{machine_in}
+use Rattle.pulse_texts.specs.PulsesTexts.{pulses_text}
+use Rattle.pulse_texts.specs.PulseShapes.{pulses_part}
+
+-- a header has three lines of the plan, and four of the node
+abbrev pub pulses_writing : PlanText PulseNumbers
+pulses_writing = record { text = λ plan. pulses_text plan; lines = λ plan. 7 }
+
+abbrev pub header_text : PulseNumbers → (v : ℕ) → State → List ℕ
+header_text plan v s = text_of_header pulses_part pulses_writing plan v s
+
+-- the header that it states
+abbrev pub header_stated : PulseNumbers → (v : ℕ) → State → HeaderOf PulseNumbers
+header_stated plan v s = stated_header pulses_part pulses_writing plan v s
+
+-- The header text of an accepted plan, a node of it and a state of that node is read as that
+-- header, at the beginning of any text, also of one that is longer than a header may be.
+abbrev pub PulseHeaderTextIsRead : Type 0
+PulseHeaderTextIsRead = (plan : PulseNumbers) → IsAccepted plan → (v : ℕ) → v < plan.nodes
+    → (s : State) → IsState (machine_in plan) v s → (longer : Bool) (rest : List ℕ)
+    → (header_in pulses_part (room_of longer (2 ^ 20)) (lines_of (header_text plan v s ++ rest))
+    ≡ Ok (header_stated plan v s))
+    × (behind_lines 7 (header_text plan v s ++ rest) ≡ rest)

@@ -1,2 +1,0 @@
-pub mod WordsSoFar
-pub mod LockLines

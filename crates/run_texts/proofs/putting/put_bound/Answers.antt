@@ -1,9 +1,0 @@
-use Rattle.texts.proofs.Growth.{puts_exit, puts_then, cut_more}
-use Rattle.run_texts.proofs.putting.put_bound.Goals as goal
-
-pub returns-in_err-labelled : goal.returns-in_err-labelled
-returns-in_err-labelled g c =
-    puts_exit _ _ _ _ _ c.from_residual.ensures.1 (cut_more _ _ _ _ c.in_err-labelled.ensures)
-
-pub returns : goal.returns
-returns g c = puts_then _ _ _ _ _ _ c.in_ok-labelled.ensures c.byte.ensures

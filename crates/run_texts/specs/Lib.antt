@@ -1,2 +1,0 @@
-pub mod RunTexts
-pub mod FirstLocked

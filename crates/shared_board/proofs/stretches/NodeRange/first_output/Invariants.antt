@@ -1,0 +1,9 @@
+use Rattle.std.proofs.Common.{◌≡◌, ◌-◌, ◌≤◌, []}
+use Rattle.shared_board.specs.Senders.{numbers_of}
+use Rattle.shared_board.proofs.stretches.NodeRange.first_output.Given as goal
+
+-- no node so far is correct
+abbrev pub invariant-loop-u : goal.invariant-loop-u
+invariant-loop-u l =
+    (numbers_of l.self.senders.now (λ output. output) l.self.first (l.u - l.self.first) ≡ [])
+    × (l.self.first ≤ l.u)

@@ -1,0 +1,126 @@
+//! Reads an input, and writes the other forms of its states.
+
+ghost use Rattle.std.specs.Prelude.{◌≡◌, ◌≤◌, ◌^◌, ◌+◌, Ok, length, IfErr, IfOk, IsErrOf, OnOk};
+ghost use Rattle.texts.specs.Lines.{lines_of};
+ghost use Rattle.plan_reader.specs.PlanPart.{found_in, plan_of};
+ghost use Rattle.program_words.specs.Conduct.{FailsAs};
+ghost use Rattle.states.specs.Conduct.{FailsToTurn, IsOfLine, IsShaped, Turns, TurnsInput};
+ghost use Rattle.states.specs.Inputs.{layer_from, layer_of, plan_read};
+ghost use Rattle.states.specs.Values.{IsLayer};
+
+use crate::faults::TurnError;
+use crate::layers::{Layer, read_layer};
+use crate::reasons::{StateError, StateReason};
+use crate::turning::turn;
+use edge_io::{Lines, Sink, Source, is_skipped, put_all, read_all};
+use plan_numbers::Plan;
+use plan_reader::{PlanError, read_plan};
+use program_words::{LONGEST_INPUT, ProgramError};
+use state_codec::StateShape;
+use std::alloc::Global;
+
+/// Turns the lines after a plan, from the line of this number on. So many of those that count
+/// stand before the first state.
+fn turn_lines(
+    alloc: Global,
+    shape: &StateShape,
+    text: &[u8],
+    first: u64,
+    before: usize,
+) -> Result<String, StateError>
+    requires first { first ≤ 2 ^ 32 }
+    requires length { length text.now ≤ 2 ^ 32 }
+    ensures { IfErr result IsOfLine }
+{
+    let mut out = String::new(alloc);
+    let mut left = before;
+    for (number, line) in Lines::new(text, first) {
+        if is_skipped(line) {
+            continue;
+        }
+        if left > 0 {
+            left -= 1;
+            continue;
+        }
+        match turn(alloc, shape, line, &mut out) {
+            Ok(()) => {}
+            Err(TurnError::Refused(fault)) => {
+                return Err(ProgramError::Refused(StateReason::Line(number, fault)));
+            }
+            Err(TurnError::NoMemory) => return Err(ProgramError::NoMemory),
+        }
+    }
+    Ok(out)
+}
+
+/// The plan at the front of an input, how many bytes it has, and how many lines.
+fn read_front(alloc: Global, input: &[u8]) -> Result<(Plan, usize, u64), StateError>
+    ensures read { IfOk result (λ read. plan_of input.now ≡ Ok (found_in input.now read)) }
+    ensures within { IfOk result (λ read. read.1 ≤ length input.now) }
+    ensures lines { IfOk result (λ read. read.2 ≤ read.1) }
+    ensures fails { IfErr result (FailsAs (plan_read (plan_of input.now))) }
+{
+    match read_plan(alloc, input) {
+        Ok(read) => Ok(read),
+        Err(PlanError::Refused(refusal)) => Err(ProgramError::Refused(StateReason::Plan(refusal))),
+        Err(PlanError::NoMemory) => Err(ProgramError::NoMemory),
+    }
+}
+
+/// The layer that the lines of values after a plan say.
+fn read_values(text: &[u8], first: u64) -> Result<Layer, StateError>
+    requires first { first ≤ 2 ^ 32 }
+    requires length { length text.now ≤ 2 ^ 32 }
+    ensures read { IfOk result (λ layer. layer_from first (lines_of text.now) ≡ Ok layer) }
+    ensures range { IfOk result IsLayer }
+    ensures fails { IfErr result (FailsAs (layer_from first (lines_of text.now))) }
+{
+    match read_layer(text, first) {
+        Ok(layer) => Ok(layer),
+        Err(refused) => Err(ProgramError::Refused(StateReason::Values(refused))),
+    }
+}
+
+/// The other forms of all states of an input.
+pub fn turned(alloc: Global, input: &[u8]) -> Result<String, StateError>
+    requires { length input.now ≤ 2 ^ 20 }
+    ensures shaped { OnOk result (IsShaped (layer_of input.now)) }
+    ensures fails { IfErr result (FailsToTurn (layer_of input.now)) }
+{
+    let (plan, taken, lines) = read_front(alloc, input)?;
+    let text = &input[taken..];
+    let layer = read_values(text, 1 + lines)?;
+    let shape = StateShape::with_registers(alloc, &plan, layer.values, layer.registers)?;
+    turn_lines(alloc, &shape, text, 1 + lines, layer.registers)
+}
+
+/// Writes the other forms of all states of an input.
+fn turn_text<K: Sink>(alloc: Global, input: &[u8], sink: &mut K) -> Result<(), StateError>
+    requires { length input.now ≤ 2 ^ 20 }
+    ensures { Turns (layer_of input.now) result (K.told sink.old) (K.told sink.new) }
+{
+    let text = turned(alloc, input)?;
+    Ok(put_all(sink, text.as_bytes())?)
+}
+
+/// Reads a plan, lines of values and lines of states, and writes the other form of each state.
+///
+/// The whole source is read first, at most 2^20 bytes. `Plan` and `Values` come exactly at the
+/// first line of the plan and of the values that fails, and `Line` only if none of these does;
+/// `TooLong` only if the byte after the limit was there. `ReadFault` and `WriteFault` come only if
+/// the source, before its end, or the sink counted a fault, and `NoMemory` if memory was refused.
+/// Nothing was written then, but at `WriteFault` a prefix of the text. `Usage` never comes.
+pub fn turn_input<S: Source, K: Sink>(
+    alloc: Global,
+    source: &mut S,
+    sink: &mut K,
+) -> Result<(), StateError>
+    ensures turns { TurnsInput result
+        (S.left source.old) (S.left source.new) (S.faults source.old) (S.faults source.new)
+        (K.told sink.old) (K.told sink.new) }
+    // At `ReadFault` the end of the source was not met.
+    ensures unmet { IsErrOf result ProgramError.ReadFault → S.met source.new ≡ S.met source.old }
+{
+    let input = read_all(alloc, source, LONGEST_INPUT)?;
+    turn_text(alloc, &input, sink)
+}

@@ -1,0 +1,58 @@
+use edge_io::{Sink, WriteFault, put_all};
+use outcomes::{Refusal, put_refusal};
+use program_words::{ProgramError, Reason, TOO_LONG};
+use pulse_runs::RunRefusal;
+
+/// Why there is no sweep of an input.
+#[derive(Clone, Copy, Debug, PartialEq, Eq)]
+pub enum SweepReason {
+    /// The input is refused, as `counterlab run` refuses it.
+    Levels(Refusal),
+    /// The input begins with a pulse plan, and is refused, as `pulselab run` refuses it.
+    Pulses(RunRefusal),
+    /// The script says no noise, so all runs would be one.
+    NoNoise,
+}
+
+/// Why a sweep was not written, or not all of it.
+pub type SweepError = ProgramError<SweepReason>;
+
+impl Reason for SweepReason {
+    ghost use Rattle.program_words.specs.Errors.{too_long_line};
+    ghost use Rattle.sweep.specs.Reasons.{usage_text, reason_text, code_for};
+
+    ghost usage_line = { usage_text };
+
+    ghost long_line = { too_long_line };
+
+    ghost reason_line = { reason_text };
+
+    ghost reason_code = { code_for };
+
+    fn usage() -> &'static [u8] {
+        b"usage: sweep FIRST COUNT, or sweep --help\n"
+    }
+
+    fn too_long() -> &'static [u8] {
+        TOO_LONG
+    }
+
+    fn code(&self) -> u8 {
+        match *self {
+            SweepReason::Levels(refusal) => refusal.status().code(),
+            SweepReason::Pulses(refusal) => refusal.code(),
+            SweepReason::NoNoise => 3,
+        }
+    }
+
+    fn put_line<K: Sink>(&self, sink: &mut K) -> Result<(), WriteFault> {
+        match *self {
+            SweepReason::Levels(refusal) => put_refusal(sink, refusal),
+            SweepReason::Pulses(refusal) => pulse_runs::put_refusal(sink, refusal),
+            SweepReason::NoNoise => put_all(
+                sink,
+                b"refused script: it says no noise, so all runs would be one\n",
+            ),
+        }
+    }
+}

@@ -1,4 +1,0 @@
-pub mod GroupRegisters
-pub mod LineParts
-pub mod Reading
-pub mod WordsSoFar
