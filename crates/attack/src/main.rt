@@ -9,8 +9,9 @@
 //! write what they say. Other words are answered by one line of usage on standard error, and what
 //! is refused by one line there. The exit codes are those of `counterlab`.
 //!
-//! All that is proved, of [`asking::answer`], [`program_words::end`] and [`noting::put_note`]; that
-//! the lines go to standard error, and after the answer, is not.
+//! All that is proved, of [`asking::answer`], [`program_words::put_error`], the code of
+//! [`program_words::end`] and [`noting::put_note`]; that the lines go to standard error, and after
+//! the answer, is not.
 //!
 //! Attacks: scripts of an adversary that are made one after the other, so that one that locks late
 //! is found.

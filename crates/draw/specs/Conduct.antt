@@ -42,7 +42,7 @@ HandsOn input other = ⊥
 
 -- ---- any other input
 
--- something is said in letters that can be printed
+-- something is said in letters that can be printed; that it is the cause is not said
 pub record IsEcho (reason : NoRun) : Type 0 where
   pub text : List ℕ
   pub is : reason.said.items ≡ echoed text

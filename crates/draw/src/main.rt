@@ -10,8 +10,9 @@
 //! read, and no others than can be printed. The exit codes are those of `counterlab`, and 1 for any
 //! input that is refused.
 //!
-//! What is read and written is proved, of [`asking::answer`] and [`program_words::end`]; that the
-//! line goes to standard error, and what it says of an input that is not drawn, is not.
+//! What is read and written is proved, of [`asking::answer`], [`program_words::put_error`] and the
+//! code of [`program_words::end`]; that the line goes to standard error, and what it says of an
+//! input that is not drawn, is not.
 #![tactic(auto)]
 
 mod asking;

@@ -13,8 +13,8 @@
 //! or `node`. What else fails is said in one line on standard error. The exit codes are those of
 //! `counterlab`.
 //!
-//! What is read and written is proved, of [`calling::pulselab`] and [`program_words::end`]; that
-//! the line goes to standard error is not.
+//! What is read and written is proved, of [`calling::pulselab`], [`program_words::put_error`] and
+//! the code of [`program_words::end`]; that the line goes to standard error is not.
 #![tactic(auto)]
 
 mod asking;

@@ -17,13 +17,13 @@ use Rattle.states.specs.declared.reasons.StateReason.TheVariants as reason
 abbrev pub asked_of : (words : List (List ℕ)) → Asked (Unit {0})
 asked_of words = asked_by words (request_of words)
 
--- a plan stands at the front of the input, and no line of values is refused
+-- a plan stands at the beginning of the input, and no line of values is refused
 pub record IsShaped (shaped : Result Layer StateReason) : Type 0 where
   pub layer : Layer
   pub is : shaped ≡ Ok layer
 
--- The input is refused for this: at the first line that fails of its plan and its lines of values,
--- or at a line of a state.
+-- The input is refused for this: at the first line that fails of its plan and its lines of values;
+-- or at a line of a state, of which is said neither that it fails nor which line it is.
 abbrev pub IsRefused : (shaped : Result Layer StateReason) → StateReason → Type 0
 IsRefused shaped (reason.Plan refusal) = shaped ≡ Err (reason.Plan refusal)
 IsRefused shaped (reason.Values refused) = shaped ≡ Err (reason.Values refused)
@@ -46,8 +46,8 @@ pub record SomeText (holds : List ℕ → Type 0) : Type 0 where
   pub text : List ℕ
   pub has : holds text
 
--- What was written of an input with this front: some text, which has the other forms of its states;
--- or a prefix of it; or nothing.
+-- What was written of an input that begins so: some text; or a prefix of it; or nothing. That the
+-- text has the other forms of the states is tested.
 abbrev pub Turns : {T : Type 0} → (shaped : Result Layer StateReason)
     → Result T (ProgramError StateReason) → (old new : SinkState) → Type 0
 Turns shaped (Ok value) old new = IsShaped shaped × SomeText (λ text. Wrote text old new)

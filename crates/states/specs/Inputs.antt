@@ -1,5 +1,5 @@
--- The plan at the front of an input, and the registers of a layer that the lines after it say; or
--- the line of them that is refused.
+-- The plan at the beginning of an input, and the registers of a layer that the lines after it say;
+-- or the line of them that is refused.
 use Rattle.std.specs.Prelude.{ℕ, ◌+◌, List, Result, Ok, Err}
 use Rattle.texts.specs.Parts.{At, Found}
 use Rattle.edge_io.specs.Items.{numbered}

@@ -53,7 +53,7 @@ fn turn_lines(
     Ok(out)
 }
 
-/// The plan at the front of an input, how many bytes it has, and how many lines.
+/// The plan at the beginning of an input, how many bytes it has, and how many lines.
 fn read_front(alloc: Global, input: &[u8]) -> Result<(Plan, usize, u64), StateError>
     ensures read { IfOk result (λ read. plan_of input.now ≡ Ok (found_in input.now read)) }
     ensures within { IfOk result (λ read. read.1 ≤ length input.now) }

@@ -11,9 +11,9 @@
 //! If standard error is a terminal, a line there says how many runs were played; it is wiped
 //! before the sweep is written.
 //!
-//! What is read and written is proved, of [`asking::answer`] and [`program_words::end`], and that
-//! the numbers of that line rise. Which they are and when it comes, that the lines go to standard
-//! error, and whether that is a terminal, is not.
+//! What is read and written is proved, of [`asking::answer`], [`program_words::put_error`] and the
+//! code of [`program_words::end`], and that the numbers of that line rise. Which they are and when
+//! it comes, that the lines go to standard error, and whether that is a terminal, is not.
 //!
 //! Sweeps: how soon a script locks, over many keys of its noise.
 //!

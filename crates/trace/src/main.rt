@@ -8,8 +8,8 @@
 //! standard error, and what is refused by one line there. The exit codes are those of `counterlab`
 //! and `pulselab`.
 //!
-//! All that is proved, of [`asking::answer`] and [`program_words::end`]; that the line goes to
-//! standard error is not.
+//! All that is proved, of [`asking::answer`], [`program_words::put_error`] and the code of
+//! [`program_words::end`]; that the line goes to standard error is not.
 #![tactic(auto)]
 
 mod answering;
