@@ -16,7 +16,7 @@ use tower::build;
 
 /// The runner at configuration 0 of a script that was read for a plan, with a layer that stands
 /// over the plan's counter. The shape is that of the plan's states with the layer's registers after
-/// them.
+/// those of the plan.
 pub fn runner_of<O: Overlay>(
     alloc: Global,
     plan: &Plan,

@@ -29,7 +29,7 @@ use Rattle.attack.specs.PlanInputs.{boosting_answer, boosting_or_refused, is_fir
 use Rattle.attack.specs.PlanInputs.{plan_by, pulses_refused_at}
 use Rattle.attack.specs.Requests.{named_kinds}
 
--- ---- no plan is refused since no attack is a script
+-- ---- no plan is refused for the reason that no attack is a script
 
 boosting_other : (read : Result Plan (At Premise))
     → boosting_or_refused read ≡ Err reason.NoScript → ⊥

@@ -46,8 +46,8 @@ module _ (numbers : Numbers) (words : List (List ℕ)) (input : List ℕ) where
   IsRefused reason.NoScript = HasNoScript
   IsRefused other = plan_answer input ≡ Err other
 
-  -- What was written of an input: the texts of its plan and of the attack on it; or nothing, since
-  -- this is why there is none, or memory was refused; or a prefix of the texts.
+  -- What was written of an input: the texts of its plan and of the attack on it; or nothing, if
+  -- there is no attack for this reason, or memory was refused; or a prefix of the texts.
   abbrev pub Attacks : Result Found (ProgramError AttackReason) → (old new : SinkState) → Type 0
   Attacks (Ok found) old new = IsAttacked found (λ text. Wrote text old new)
   Attacks (Err error.WriteFault) old new = IsAttackedSome (λ text. Cut text old new)

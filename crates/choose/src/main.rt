@@ -15,9 +15,9 @@
 //! `--help` and `--version` write what they say. Other words are answered by one line of usage on
 //! standard error. The exit codes are those of `counterlab`.
 //!
-//! What [`choosing::choose`] and [`choosing::explain_none`] write is proved, the line of an error
-//! of [`program_words::put_error`], and its code of [`program_words::end`]. That `main` hands on
-//! the words and writes the lines on standard error is tried, and not proved.
+//! What [`choosing::choose`] and [`choosing::explain_none`] write is proved, and so are the line of
+//! an error, by [`program_words::put_error`], and its code, by [`program_words::end`]. That `main`
+//! hands on the words and writes the lines on standard error is tried, and not proved.
 #![tactic(auto)]
 
 mod any_plans;

@@ -186,7 +186,7 @@ module _ (h : RegisterHeard) (faulty : List ℕ) (v : ℕ) (quorum : 3 * h.fault
           ∙ sym (marked_stays (length h.states) h.faults (λ a. a) (heard_at h v)
           (map value told) (map value heard) king z finite marked))
 
-      -- and else, if what is heard of the king depends on these lies
+      -- and else, if what is heard of the king depends on these lies alone
       pub king_shut : king < length h.states
           → DependsOnlyOn (λ heard. state_of heard king) faulty v h.states from to
           → DependsOnlyOn (step 2 king) faulty v h.states from to

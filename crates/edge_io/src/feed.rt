@@ -115,7 +115,7 @@ impl<'a, S: Source> Feed<'a, S> {
         self.line_bytes += count as u64;
     }
 
-    /// Gets a byte into the buffer, if one is left.
+    /// Makes sure that the buffer has a byte, if one is left.
     fn fill(&mut self) -> Result<bool, ReadFault>
         ensures same_reference { self.new.source.ghost_name ≡ self.old.source.ghost_name }
         ensures left { Keeps (feed_left S.left self.old) (feed_left S.left self.new) }

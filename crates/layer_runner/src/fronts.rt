@@ -7,7 +7,7 @@ ghost use Rattle.layer_runner.specs.Fronts.{HasFronts};
 use state_codec::Packed;
 use sync_types::{FaultSet, NodeState};
 
-/// Takes the number and the first `count` registers of a state, and keeps the further ones.
+/// Takes the number and the first `count` registers of a state into `out`, whose further ones stay.
 pub fn copy_front(count: usize, state: &NodeState, out: &mut NodeState)
     requires state { count ≤ length state.now.registers }
     requires out { count ≤ length out.old.registers }

@@ -93,7 +93,8 @@ fn step_machine<M: Machine>(machine: &M, v: u32, room: &mut LayerBuffers) -> u64
     machine.output(v, &room.fronts[v as usize])
 }
 
-/// The layer's step of node `v`, from what it showed and what it hears, after its new front.
+/// The layer's step of node `v`, from what it showed and what it hears: its registers are written
+/// after the new front.
 fn step_layer<O: Overlay>(overlay: &mut O, v: u32, output: u64, room: &mut LayerBuffers)
     requires front { length room.old.front.registers ≤ length room.old.below.out.registers }
     requires step { 0 < (O.layer overlay.old).extra → CanStep (O.layer overlay.old) v output

@@ -1,4 +1,4 @@
--- There are rounds in which states are lost, as nodes that step by calls may hear them.
+-- There are rounds in which states are lost, of nodes that step by calls.
 use Rattle.std.specs.Prelude.{◌≡◌, ℕ, ◌<◌, List, Ok, true}
 use Rattle.sync_types.specs.States.{State}
 use Rattle.construction.specs.Runs.{is_in}

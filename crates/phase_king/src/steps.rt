@@ -58,8 +58,8 @@ pub fn agree_step(
     requires faults { faults ≤ nodes }
     ensures value { result ≡ without_increment nodes faults kind own same least king }
 
-    // with the counts and the king's value of a list heard, it is the instruction on that list, and
-    // the next value is the value itself
+    // with the counts and the king's value of a list heard, it is the instruction on that list,
+    // with the value itself as the next one
     ensures heard { (values : List (Option ℕ)) (place : ℕ) →
         same ≡ count_of values own.a → least ≡ least_above faults values
         → king ≡ slice_index_or values place None →

@@ -19,10 +19,10 @@ abbrev pub lies_played : Plan → Script → (t : ℕ) → List (List State)
 lies_played plan script t = lies_at script t (played_at plan script t)
 
 -- The lines of the script say what its eras, its starts and its lies are. Configuration 0 has the
--- starts. After a round, also if an era begins there, a node that has a start line there is in its
--- state, and each other one steps from what it hears, also the puppet of a faulty one. There the
--- lies are the script's: what a faulty node tells another is what the first lie of the script that
--- says this gives, or else its puppet's state. Each era is a run, with few faulty nodes.
+-- starts. After a round, also when an era begins there, a node that has a start line there is in
+-- its state, and each other one steps from what it hears, also the puppet of a faulty one. There
+-- the lies are the script's: what a faulty node tells another is what the first lie of the script
+-- that says this gives, or else its puppet's state. Each era is a run, with few faulty nodes.
 pub record PlaysPlain (plan : Plan) (script : Script) : Type 0 where
   pub says : SaysLines script
   pub starts : played_at plan script 0 ≡ starts script

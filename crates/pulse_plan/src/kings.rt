@@ -22,7 +22,8 @@ fn king(values: &HeardRegister<'_>, place: u64) -> Option<u64>
     }
 }
 
-/// The register of a node of a group, after its instruction. So many nodes have its value.
+/// The register of a node of a group, after its instruction. `same` says how many nodes have the
+/// value that it had before.
 pub(crate) fn obey(
     group: &Group,
     instruction: u64,

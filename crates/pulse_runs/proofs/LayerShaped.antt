@@ -32,7 +32,7 @@ module _ (own : Fields) (values count : ℕ) where
   further_bits =
       omega (arith, sum_by-append register_bits own.moduli (replicate count values))
 
-  -- what stands after is limited
+  -- what stands after the node's own moduli is limited
   module _ (most : values ≤ 65536) where
     behind_limited : All (λ modulus. modulus ≤ 2 ^ 40) (replicate count values)
     behind_limited = All-replicate (λ modulus. modulus ≤ 2 ^ 40) count values (omega (arith, most))

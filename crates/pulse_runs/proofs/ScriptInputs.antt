@@ -63,7 +63,7 @@ own_has plan accepted = record {
   some = some_bits_at plan accepted;
 }
 
--- that with registers of a layer after
+-- that with registers of a layer after the plan's
 more_has : (plan : PulseNumbers) → IsAccepted plan → (values count : ℕ) → 2 ≤ values
     → values ≤ 65536 → count ≤ 2 → HasText plan.nodes (shape_with plan values count)
 more_has plan accepted values count least most few = record {

@@ -32,8 +32,8 @@ fn moduli_with(
     Ok(moduli)
 }
 
-/// The fields of states of `depth` registers, with `count` further ones after, at most 2, whose
-/// values are those below `values`, at most 65536.
+/// The fields of states of `depth` registers, with `count` further ones after them, at most 2,
+/// whose values are those below `values`, at most 65536.
 fn fields_with(
     alloc: Global,
     own: &Fields,

@@ -129,7 +129,7 @@ fn word(key: [u8; 32], stream: u64, place: u64) -> u32 {
 }
 
 impl Rule {
-    /// Whether it has what the sender says to the receiver in round `at`.
+    /// Whether it is a rule for what the sender says to the receiver in round `at`.
     fn matches(&self, script: &Script, at: u64, sender: u64, receiver: u64) -> bool {
         let listens = match self.receivers {
             Receivers::All => true,

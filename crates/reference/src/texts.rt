@@ -1,4 +1,4 @@
-//! Texts that are written, when memory may be short.
+//! Texts that are written, though memory may be short.
 
 use std::alloc::AllocError;
 

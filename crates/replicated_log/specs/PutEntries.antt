@@ -51,8 +51,8 @@ module _ {Kept : Type 0} (counter : Meaning) (keep : ℕ) (log : Scene Kept → 
       PutsOver (t + length older * entry_length counter.faults) entry × AreEntriesOver t older
 
   -- Since configuration t the correct nodes have put the same entries into their logs, those of the
-  -- slots that have ended: in configuration t + x, as far as logs go, each has these before what it
-  -- had.
+  -- slots that have ended: in configuration t + x, as far as logs go, each has these ahead of what
+  -- it had.
   pub record SameSinceOver (t x : ℕ) : Type 0 where
     pub put : List Entry
     pub many : length put ≡ x / entry_length counter.faults

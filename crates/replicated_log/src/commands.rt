@@ -27,7 +27,7 @@ impl Commands {
         Commands { values }
     }
 
-    /// The command of a number, in turn: after the last the first comes again.
+    /// The command whose turn has this number: after the last the first comes again.
     pub fn in_turn(&self, turn: u64) -> u64
         ensures { result ≡ slice_index self.now (turn % length self.now) }
     {

@@ -50,7 +50,7 @@ module _ (from : ℕ) (put : ℕ → State) (old : List State) where
         (λ (e : k ≡ j). omega (arith, le, e)) ∙ h.behind k (omega (arith, le));
   }
 
-  -- what stands after has its depth
+  -- what stands after what was laid has its depth
   pub deep_at : (j : ℕ) (now : List State) (depth : ℕ) → Lays from j put old now
       → j < length old → All (λ s. length s.registers ≡ depth) old → (d : State)
       → length (get_or now j d).registers ≡ depth

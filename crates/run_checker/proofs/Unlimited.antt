@@ -148,7 +148,7 @@ found_in (line ∷ lines) s taken number found e =
     found_next (line_step s line) line lines taken number found
     (λ t. found_in lines t (taken + 1) (number + 1) found) e
 
--- ---- what stands after
+-- ---- what stands after the last line
 
 followed : (v : Verdict) (k : ℕ) (lines : List (List ℕ)) (rest : List ℕ)
     → 0 < length (text_of lines ++ rest)

@@ -51,7 +51,8 @@ module _ (s : Sent) (lies told : List State) (from to : ℕ)
       (λ u a b. heard_alike (λ t. (register_at s.height t).a) (register_of s u).a u (omega arith)
       (omega arith))
 
--- so does the new register of a node whose group lies among them
+-- the new register of a node is the same by two such lists, if its group stands among the nodes
+-- from the one to before the other
 pub register_alike : (b : Board) (h : ℕ) (lies told : List State) (from to : ℕ) → from ≤ to
     → to ≤ length b.states
     → ((j : ℕ) → place_among b.faulty from ≤ j → j < place_among b.faulty to

@@ -39,8 +39,8 @@ fn places_of(votes: &[u64], vote: u64) -> usize
     places
 }
 
-/// The vote that more than half of the votes are, 0 if there is none. It does not fit into half of
-/// the votes, so it is looked for in the others.
+/// The vote that more than half of the votes are, 0 if there is none. Half of the votes cannot hold
+/// all of its places, so it is looked for in the others.
 fn most_of(votes: &[u64]) -> u64
     ensures { result ≡ majority_or_zero votes.now }
 {

@@ -294,7 +294,7 @@ impl<'a> Reader<'a> {
     }
 }
 
-/// How many words stand after `votes` at most, the word `lead` included.
+/// How many words stand after `votes` at most, up to the word `lead` and with it.
 const MOST_BLOCKS: usize = 257;
 
 /// Reads a line of a trace.

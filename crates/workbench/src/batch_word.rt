@@ -9,7 +9,7 @@ use outcomes::{Batch, Command};
 use std::alloc::Global;
 use sync_types::Status;
 
-/// How many bytes an input that is read whole first may have.
+/// How many bytes an input may have that is read whole before it is answered.
 const LONGEST_INPUT: usize = 1 << 20;
 
 /// A batch command.

@@ -7,7 +7,7 @@ use Rattle.outcomes.specs.declared.demo.Liars.{Liars}
 use Rattle.outcomes.specs.DemoText.{liars_of, faulty_line, lie_line, text_with, demo_text}
 use Rattle.outcomes.proofs.demo.demo_text.Goals as goal
 
--- a text that has some bytes has those that they equal
+-- a text that has some bytes has those that are equal to them
 has_bytes : {A E : Type 0} (result : Result (String A) E) (bytes text : List ℕ)
     → IfOk result (λ s. string_bytes s ≡ bytes) → bytes ≡ text
     → IfOk result (λ s. string_bytes s ≡ text)

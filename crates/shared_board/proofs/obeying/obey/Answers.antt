@@ -66,7 +66,7 @@ obey_first-requires-clause-room g c =
           c.lies_in-lies.result.lies.now values c.lies_in-lies.ensures.lies,
     )
 
--- what is counted, and of the lies, is in range
+-- what is counted, and what the lies have, is in range
 pub obey_first-requires-clause-below : goal.obey_first-requires-clause-below
 obey_first-requires-clause-below g c =
     let at = c.args.hearing.now in

@@ -7,6 +7,6 @@ use Rattle.run_checker.proofs.digits.Digits.zeros.Goals as goal
 pub invariant_of-result : goal.invariant_of-result
 invariant_of-result c = (c.requires, front_lower is_lower_digit (2 * c.args.bytes) _ refl)
 
--- the first of all the digits that there is room for
+-- the first ones of all the digits that there is room for
 pub returns-clause-value : goal.returns-clause-value
 returns-clause-value c = take-replicate (2 * c.args.bytes) 64 48 (omega (arith, c.requires))
