@@ -46,7 +46,8 @@ fn put_pulse_part<K: Sink>(writer: &mut Writer<'_, K>, plan: &PulsePlan)
 }
 
 fn put_pulse_line<K: Sink>(writer: &mut Writer<'_, K>, plan: &PulsePlan)
-    ensures { Writes K.told (pulse_numbers_part plan.now ++ pulse_part plan.now) writer.old writer.new }
+    ensures { Writes K.told (pulse_numbers_part plan.now ++ pulse_part plan.now)
+        writer.old writer.new }
 {
     put_pulse_numbers(writer, plan);
     put_pulse_part(writer, plan);

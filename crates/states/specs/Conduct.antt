@@ -57,8 +57,8 @@ Turns shaped (Err (error.Refused reason)) old new = IsRefused shaped reason × (
 Turns shaped (Err error.NoMemory) old new = new ≡ old
 Turns shaped (Err other) old new = ⊥
 
--- What was done that ended so: the bytes that the source has left, its count of faults, and what the
--- sink tells, each before and after.
+-- What was done that ended so: the bytes that the source has left, its count of faults, and what
+-- the sink tells, each before and after.
 abbrev pub TurnsInput : {T : Type 0} → Result T (ProgramError StateReason)
     → (left left' : Option (List ℕ)) (before now : ℕ) (old new : SinkState) → Type 0
 TurnsInput result left left' before now old new =

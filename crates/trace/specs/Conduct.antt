@@ -15,8 +15,8 @@ use Rattle.trace.specs.declared.reasons.TraceReason.{TraceReason}
 abbrev pub asked_of : (words : List (List ℕ)) → Asked Want
 asked_of words = asked_by words (request_of words)
 
--- What a trace did that ended so, if these words name the nodes: the bytes that its source has left,
--- the source's count of faults, and what its sink tells, each before and after.
+-- What a trace did that ended so, if these words name the nodes: the bytes that its source has
+-- left, the source's count of faults, and what its sink tells, each before and after.
 abbrev pub TracesInput : {T : Type 0} → Result T (ProgramError TraceReason) → Want
     → (nodes : List (List ℕ))
     → (left left' : Option (List ℕ)) (before now : ℕ) (old new : SinkState) → Type 0

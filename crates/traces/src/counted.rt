@@ -98,7 +98,8 @@ fn fires(group: &Group, own: &LevelState, said: &Said) -> &'static str
 
 /// Writes what a node of a group, which has this level state, counts of it.
 pub fn put_said<K: Sink>(writer: &mut Writer<'_, K>, group: &Group, own: &LevelState, said: &Said)
-    ensures { Writes K.told (counted_part group.now.nodes group.now.faults own.now said.now) writer.old writer.new }
+    ensures { Writes K.told (counted_part group.now.nodes group.now.faults own.now said.now)
+        writer.old writer.new }
 {
     let left = grade_word(group, said.left);
     let right = grade_word(group, said.right);

@@ -79,7 +79,8 @@ fn put_marks<K: Sink>(writer: &mut Writer<'_, K>, own: &LevelState)
 
 /// Writes what a level state of a group holds after its register.
 fn put_held<K: Sink>(writer: &mut Writer<'_, K>, group: &Group, own: &LevelState)
-    ensures { Writes K.told (held_part group.now.faults group.now.first own.now) writer.old writer.new }
+    ensures { Writes K.told (held_part group.now.faults group.now.first own.now)
+        writer.old writer.new }
 {
     put_instruction(writer, group, own);
     put_marks(writer, own);

@@ -26,7 +26,8 @@ impl Place<'_> {
     /// Writes the beginning of the level's line, up to the node's own register there.
     fn put_level_front<K: Sink>(&self, writer: &mut Writer<'_, K>, own: Reg)
         ensures { Writes K.told (level_front self.now.view.heading self.now.view.faulty.now.ids
-            self.now.view.config.now self.now.below self.now.first self.now.nums.nodes own) writer.old writer.new }
+            self.now.view.config.now self.now.below self.now.first self.now.nums.nodes own)
+            writer.old writer.new }
     {
         let heading = &self.view.heading;
         let all = self
@@ -50,7 +51,8 @@ impl Place<'_> {
     fn put_heard_if<K: Sink>(&self, writer: &mut Writer<'_, K>, own: Option<u64>, work: &mut Work)
         requires { IsFor (length self.now.group) work.old }
         ensures part { Writes K.told (heard_if self.now.view.hears self.now.below
-            (block_nodes self.now.nums) (level_of self.now.nums) self.now.first own self.now.group) writer.old writer.new }
+            (block_nodes self.now.nums) (level_of self.now.nums) self.now.first own self.now.group)
+            writer.old writer.new }
         ensures work { IsAsRoomy work.old work.new }
     {
         if self.view.hears {
@@ -91,7 +93,8 @@ pub fn put_levels<K: Sink>(
     requires deep { All (λ s. length levels.now ≤ length s.registers) group.now }
     requires work { IsFor (length group.now) work.old }
     ensures lines { Writes K.told (level_lines view.now.heading view.now.faulty.now.ids
-        view.now.config.now view.now.hears (levels_in levels.now) place group.now) writer.old writer.new }
+        view.now.config.now view.now.hears (levels_in levels.now) place group.now)
+        writer.old writer.new }
     ensures work { IsAsRoomy work.old work.new }
 {
     let Some((nums, below)) = levels.split_last() else {

@@ -38,7 +38,8 @@ impl Place<'_> {
     /// Writes the votes of the blocks.
     fn put_votes<K: Sink>(&self, writer: &mut Writer<'_, K>, work: &mut Work)
         requires { IsFor self.now.nums.nodes work.old }
-        ensures part { Writes K.told (votes_part (block_nodes self.now.nums) (level_of self.now.nums)
+        ensures part { Writes K.told (votes_part (block_nodes self.now.nums)
+            (level_of self.now.nums)
             (take (in_blocks self.now.nums) work.old.outputs.items)) writer.old writer.new }
         ensures work { KeepsOutputs work.old work.new }
     {
@@ -50,7 +51,8 @@ impl Place<'_> {
     fn put_turn<K: Sink>(&self, writer: &mut Writer<'_, K>, work: &mut Work)
         requires { IsFor self.now.nums.nodes work.old }
         ensures part { Writes K.told (turn_part (block_nodes self.now.nums) (level_of self.now.nums)
-            self.now.first (take (in_blocks self.now.nums) work.old.outputs.items)) writer.old writer.new }
+            self.now.first (take (in_blocks self.now.nums) work.old.outputs.items))
+            writer.old writer.new }
         ensures work { KeepsOutputs work.old work.new }
     {
         let leader = lead(self.nums, work);

@@ -1,10 +1,10 @@
 //! The text of a trace: what a node holds in a configuration of a run, and what it makes of what it
 //! hears in the round that follows.
 //!
-//! [`put_trace`] plays a script on a boosting plan, and [`put_pulse_trace`] one on a pulse plan, and
-//! both write the lines of the wanted configurations and nodes. The texts are defined in specs/: by
-//! the construction's own votes, lead, position and counts, and of a pulse plan by its level states,
-//! grades and fires.
+//! [`put_trace`] plays a script on a boosting plan, and [`put_pulse_trace`] one on a pulse plan,
+//! and both write the lines of the wanted configurations and nodes. The texts are defined in
+//! specs/: by the construction's own votes, lead, position and counts, and of a pulse plan by its
+//! level states, grades and fires.
 #![tactic(auto)]
 
 mod counted;
