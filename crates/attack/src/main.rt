@@ -13,13 +13,10 @@
 //! [`program_words::end`] and [`noting::put_note`]; that the lines go to standard error, and after
 //! the answer, is not.
 //!
-//! Attacks: scripts of an adversary that are made one after the other, so that one that locks late
-//! is found.
-//!
-//! An [`Attack`] is what such a script says: who is faulty, how nodes start, and what the faulty
-//! nodes say; it has a text for each machine. A [`Maker`] makes the candidates of a search, each by
-//! its number and the best one so far. [`Drawing`] draws them: at first by [`Kind`], and then as
-//! the best one with a small change. All that it draws depends on a seed.
+//! An [`Attack`] is what a script of an adversary says: who is faulty, how nodes start, and what
+//! the faulty nodes say; it has a text for each machine. A [`Maker`] makes the candidates of a
+//! search, each by its number and the best one so far. [`Drawing`] draws them: at first by
+//! [`Kind`], and then as the best one with a small change. All that it draws depends on a seed.
 //!
 //! A [`Target`] is what is attacked. [`Target::search`] tries the attacks of a maker: the text of
 //! each is read as a script and played, and the one that locks latest is kept.

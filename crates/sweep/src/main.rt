@@ -7,21 +7,16 @@
 //!
 //! `--help` and `--version` write what they say. Other words are answered by one line of usage on
 //! standard error, and what is refused by one line there. The exit codes are those of `counterlab`
-//! and `pulselab`.
-//! If standard error is a terminal, a line there says how many runs were played; it is wiped
-//! before the sweep is written.
+//! and `pulselab`. If standard error is a terminal, a line there says how many runs were played; it
+//! is wiped before the sweep is written.
 //!
 //! What is read and written is proved, of [`asking::answer`], [`program_words::put_error`] and the
 //! code of [`program_words::end`], and that the numbers of that line rise. Which they are and when
 //! it comes, that the lines go to standard error, and whether that is a terminal, is not.
 //!
-//! Sweeps: how soon a script locks, over many keys of its noise.
-//!
-//! [`sweep`] plays a runner's script with each of so many numbers as its key, and writes the
-//! counter's bound, and for each era how many of the runs first lock with which configuration, and
-//! the least number of each. The runs are played in one room, one after the other, each until its
-//! first locked configurations are known. A runner of a plan is [`Sweepable`], and so is one of any
-//! machine. How far it is [`Progress`] may say on a sink of its own.
+//! The runs are played in one room, one after the other, each until its first locked configurations
+//! are known ([`sweeping::sweep`]). A runner of a plan is [`sweepable::Sweepable`], and so is one
+//! of any machine. How far it is [`Progress`] says on a sink of its own.
 #![tactic(auto)]
 
 mod asking;
