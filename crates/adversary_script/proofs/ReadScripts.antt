@@ -9,7 +9,7 @@ use Rattle.texts.specs.Parts.{At}
 use Rattle.sync_types.specs.declared.answers.Rule.{Rule}
 use Rattle.sync_types.specs.declared.answers.Rule.TheVariants as rule
 use Rattle.construction.specs.Plans.{Plan, plan_nodes, plan_faults}
-use Rattle.construction.specs.Runs.{IsBorne}
+use Rattle.construction.specs.Runs.{IsToleratedBy}
 use Rattle.state_codec.specs.Shapes.{Shape, IsShape}
 use Rattle.adversary_script.specs.declared.kinds.Kind.{Kind}
 use Rattle.adversary_script.specs.declared.kinds.Kind.TheVariants as kind
@@ -21,7 +21,7 @@ use Rattle.adversary_script.specs.Scripts.{empty_script, faulty_sets}
 use Rattle.adversary_script.specs.FaultySteps.{last_first}
 use Rattle.adversary_script.specs.Steps.{done, rounds_tested, show_tested, line_step}
 use Rattle.adversary_script.specs.ScriptPart.{IsClosed, IsAnswerFor, IsTolerated}
-use Rattle.adversary_script.specs.ScriptPart.{IsScriptFor, IsFor, script_for, script_of}
+use Rattle.adversary_script.specs.ScriptPart.{IsScriptFor, IsScriptForPlan, script_for, script_of}
 use Rattle.adversary_script.proofs.EraLists.{last_is, most_last}
 use Rattle.adversary_script.proofs.LineByLine.{script_has}
 use Rattle.adversary_script.proofs.SoundLines.{guarded, IsSound, line_kept}
@@ -164,24 +164,25 @@ read_fits nodes faults shape sound number lines (Err e) is = tt
 
 -- a script for a plan's nodes is one for the plan
 pub for_plan : (plan : Plan) (shape : Shape) (s : Script)
-    → IsScriptFor (plan_nodes plan) (plan_faults plan) shape s → IsFor plan shape s
+    → IsScriptFor (plan_nodes plan) (plan_faults plan) shape s → IsScriptForPlan plan shape s
 for_plan plan shape s is = record {
   nodes = is.nodes;
   states = is.states;
-  borne = All-weaker (IsTolerated (plan_nodes plan) (plan_faults plan)) (IsBorne plan)
+  borne = All-weaker (IsTolerated (plan_nodes plan) (plan_faults plan)) (IsToleratedBy plan)
       (λ ids set. record { rising = set.rising; ids = set.ids; few = set.few }) (faulty_sets s)
       is.borne;
 }
 
 pub script_is_for : (plan : Plan) (shape : Shape) → IsShape shape
     → (number : ℕ) (lines : List (List ℕ)) → IfOk (script_of plan shape number lines)
-    (IsFor plan shape)
+    (IsScriptForPlan plan shape)
 script_is_for plan shape sound number lines =
     elim_ok (script_of plan shape number lines)
     (script_fits (plan_nodes plan) (plan_faults plan) shape sound number lines)
     (for_plan plan shape)
 
 pub read_is_for : (plan : Plan) (shape : Shape) (r : Result Script (PartError Rule))
-    → IfOk r (IsScriptFor (plan_nodes plan) (plan_faults plan) shape) → IfOk r (IsFor plan shape)
+    → IfOk r (IsScriptFor (plan_nodes plan) (plan_faults plan) shape)
+    → IfOk r (IsScriptForPlan plan shape)
 read_is_for plan shape (Ok script) is = for_plan plan shape script is
 read_is_for plan shape (Err e) is = tt

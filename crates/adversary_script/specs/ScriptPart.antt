@@ -7,7 +7,7 @@ use Rattle.texts.specs.Parts.{Next, goes, ends, refuses, with_skips, Found, At, 
 use Rattle.sync_types.specs.declared.answers.Rule.{Rule}
 use Rattle.sync_types.specs.declared.answers.Rule.TheVariants.{Form}
 use Rattle.construction.specs.Plans.{Plan, plan_nodes, plan_faults}
-use Rattle.construction.specs.Runs.{IsBorne}
+use Rattle.construction.specs.Runs.{IsToleratedBy}
 use Rattle.state_codec.specs.Shapes.{Shape}
 use Rattle.plan_reader.specs.Skipped.{first_unskipped}
 use Rattle.edge_io.specs.declared.taking.PartError.{PartError}
@@ -90,10 +90,10 @@ pub record IsScriptFor (n f : ℕ) (shape : Shape) (script : Script) : Type 0 wh
 
 -- a script for a plan: for its nodes, for states of that shape, with faulty sets that the plan
 -- tolerates
-pub record IsFor (plan : Plan) (shape : Shape) (script : Script) : Type 0 where
+pub record IsScriptForPlan (plan : Plan) (shape : Shape) (script : Script) : Type 0 where
   pub nodes : script.nodes ≡ plan_nodes plan
   pub states : script.shape ≡ shape
-  pub borne : All (IsBorne plan) (faulty_sets script)
+  pub borne : All (IsToleratedBy plan) (faulty_sets script)
 
 -- reading these lines answers the script that is defined, or fails as defined
 abbrev pub IsAnswerFor : (nodes faults : ℕ) → Shape → (number : ℕ) → List (List ℕ)

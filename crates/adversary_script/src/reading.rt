@@ -2,7 +2,8 @@ ghost use Rattle.std.specs.Prelude.{◌≡◌, ◌≤◌, ◌<◌, ◌+◌, ◌^
 ghost use Rattle.texts.specs.Lines.{lines_of};
 ghost use Rattle.construction.specs.Plans.{plan_nodes};
 ghost use Rattle.state_codec.specs.Shapes.{shape_nodes};
-ghost use Rattle.adversary_script.specs.ScriptPart.{IsAnswer, IsAnswerFor, IsFor, IsScriptFor};
+ghost use Rattle.adversary_script.specs.ScriptPart.{IsAnswer, IsAnswerFor, IsScriptForPlan};
+ghost use Rattle.adversary_script.specs.ScriptPart.{IsScriptFor};
 
 use crate::script_lines::ScriptLines;
 use crate::scripts::Script;
@@ -40,7 +41,7 @@ pub fn read_script(
     requires first { 1 ≤ first_line }
     requires count { first_line + length bytes.now < 2 ^ 64 }
     ensures exact { IsAnswer plan.now shape.now first_line (lines_of bytes.now) result }
-    ensures borne { IfOk result (λ script. IsFor plan.now shape.now script) }
+    ensures borne { IfOk result (λ script. IsScriptForPlan plan.now shape.now script) }
     ensures eras { IfOk result (λ script. script.version ≡ 1 → script.eras ≡ []) }
 {
     read_script_for(alloc, plan.faults(), shape, bytes, first_line)

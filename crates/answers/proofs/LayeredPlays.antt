@@ -29,30 +29,31 @@ use Rattle.outcomes.proofs.LayeredRead.{IsToPlay, so, layer_to_play, slots_read}
 use Rattle.answers.specs.LayeredReads.{layer_answer}
 
 -- what is fresh is so under another name
-pub fresh_as : {O Said Kept : Type 0} (words : LayerWords Said Kept) (layer_of : O → Layer Kept)
-    (kept_of : O → List Kept) (numbers : Numbers) (said : Said) (o p : O) → p ≡ o
+pub fresh_as : {O Content Kept : Type 0} (words : LayerWords Content Kept)
+    (layer_of : O → Layer Kept)
+    (kept_of : O → List Kept) (numbers : Numbers) (said : Content) (o p : O) → p ≡ o
     → IsFresh words numbers said (layer_of o) (kept_of o)
     → IsFresh words numbers said (layer_of p) (kept_of p)
 fresh_as words layer_of kept_of numbers said o p is =
     subst (λ x. IsFresh words numbers said (layer_of x) (kept_of x)) (sym is)
 
-module _ {Said Kept : Type 0} (name : Part)
-    (part_over : Numbers → (number : ℕ) → List (List ℕ) → Result (Found Said) (At Rule))
-    (registers : Said → Option Registers) (Fits : Numbers → Said → Type 0)
-    (sound : IsSoundPart part_over registers Fits) (words : LayerWords Said Kept)
+module _ {Content Kept : Type 0} (name : Part)
+    (part_over : Numbers → (number : ℕ) → List (List ℕ) → Result (Found Content) (At Rule))
+    (registers : Content → Option Registers) (Fits : Numbers → Content → Type 0)
+    (sound : IsSoundPart part_over registers Fits) (words : LayerWords Content Kept)
     (right : IsSoundLayer words registers Fits) where
-  abbrev FitsPlan : Plan → Said → Type 0
+  abbrev FitsPlan : Plan → Content → Type 0
   FitsPlan plan = Fits (numbers_of plan)
 
-  abbrev layer_of : Plan → Said → Layer Kept
+  abbrev layer_of : Plan → Content → Layer Kept
   layer_of plan = words.layer (numbers_of plan)
 
-  module _ (input : List ℕ) (plan : Plan) (said : Said) (script : Script)
+  module _ (input : List ℕ) (plan : Plan) (said : Content) (script : Script)
       (read : layered_by name part_over registers input
       ≡ Ok (record { plan = plan; said = said; script = script })) where
     to_play : IsToPlay FitsPlan layer_of (record { plan = plan; said = said; script = script })
     to_play =
-        subst (λ (r : Result (Layered Said) Refusal). IfOk r (IsToPlay FitsPlan layer_of)) read
+        subst (λ (r : Result (Layered Content) Refusal). IfOk r (IsToPlay FitsPlan layer_of)) read
         (layer_to_play name part_over registers Fits sound words right input)
 
     -- what was said is for the plan's counter
@@ -81,7 +82,7 @@ module _ {Said Kept : Type 0} (name : Part)
           ≡ Ok (played_text played_plan played layer kept wording)
       layer_text played_plan played wording p s w =
           rw (p, s, w, fresh.layer_is, fresh.kept_is)
-          (ap (text_by (λ (l : Layered Said).
+          (ap (text_by (λ (l : Layered Content).
           words.text (plan_meaning l.plan) (is_locked l.plan) l.script l.said)) read
           ∙ ap Ok (sym (right.as_defined (plan_meaning plan) (is_locked plan) script said said_fits
           (eras_counted plan script (layer_of plan said)

@@ -22,7 +22,7 @@ use Rattle.counter_core.specs.Overlays.{Layer, LayerFits}
 use Rattle.adversary_script.specs.Scripts.{Script}
 use Rattle.adversary_script.specs.ScriptPart as script
 use Rattle.adversary_script.specs.ScriptPart.{script_of}
-use Rattle.round_runner.specs.Runners.{IsFor}
+use Rattle.round_runner.specs.Runners.{IsPlayableOn}
 use Rattle.layer_laws.specs.Numbers.{Numbers, numbers_of}
 use Rattle.layer_parts.specs.declared.registers.Registers.{Registers}
 use Rattle.layer_parts.specs.CounterParts.{AreFew, IsSoundPart}
@@ -34,10 +34,10 @@ use Rattle.answers.specs.Readings.{Refuses, part_error}
 -- a script that was read for a plan is one to play with a layer over its counter
 pub for_runner : {Kept : Type 0} (plan tower : Plan) (layer : Layer Kept) (shape : Shape)
     (s : Script) → tower ≡ plan → LayerFits layer (plan_meaning plan)
-    → shape ≡ shape_with plan layer.values layer.extra → script.IsFor plan shape s
-    → IsFor tower layer s
+    → shape ≡ shape_with plan layer.values layer.extra → script.IsScriptForPlan plan shape s
+    → IsPlayableOn tower layer s
 for_runner plan tower layer shape s same over is right =
-    subst (λ (p : Plan). IsFor p layer s) (sym same)
+    subst (λ (p : Plan). IsPlayableOn p layer s) (sym same)
     (record {
       nodes = right.nodes;
       shape = right.states ∙ is;
@@ -66,33 +66,33 @@ shape_for_nodes plan (Some more) = nodes_of_shape plan _
 -- ---- a part
 
 -- its registers are few, if it was read
-pub few_registers : {Said : Type 0}
-    (part_over : Numbers → (number : ℕ) → List (List ℕ) → Result (Found Said) (At Rule))
-    (registers : Said → Option Registers) (Fits : Numbers → Said → Type 0)
+pub few_registers : {Content : Type 0}
+    (part_over : Numbers → (number : ℕ) → List (List ℕ) → Result (Found Content) (At Rule))
+    (registers : Content → Option Registers) (Fits : Numbers → Content → Type 0)
     → IsSoundPart part_over registers Fits → (numbers : Numbers) (number : ℕ)
-    (lines : List (List ℕ)) (found : Found Said) → part_over numbers number lines ≡ Ok found
+    (lines : List (List ℕ)) (found : Found Content) → part_over numbers number lines ≡ Ok found
     → (given : Option Registers) → given ≡ registers found.value → IfSome given AreFew
-few_registers {Said} part_over registers Fits sound numbers number lines found read given is =
+few_registers {Content} part_over registers Fits sound numbers number lines found read given is =
     subst (λ (r : Option Registers). IfSome r AreFew) (sym is)
     (sound.few numbers found.value
-    (subst (λ (r : Result (Found Said) (At Rule)). IfOk r (λ f. Fits numbers f.value)) read
+    (subst (λ (r : Result (Found Content) (At Rule)). IfOk r (λ f. Fits numbers f.value)) read
     (sound.fits numbers number lines)))
 
-module _ {Said : Type 0} (name : Part)
-    (part_over : Numbers → (number : ℕ) → List (List ℕ) → Result (Found Said) (At Rule))
-    (registers : Said → Option Registers) (input behind : List ℕ) (plan : Plan)
+module _ {Content : Type 0} (name : Part)
+    (part_over : Numbers → (number : ℕ) → List (List ℕ) → Result (Found Content) (At Rule))
+    (registers : Content → Option Registers) (input behind : List ℕ) (plan : Plan)
     (bytes lines : ℕ) (is_behind : behind ≡ take (length input - bytes) (drop bytes input))
     (read : plan_of input ≡ Ok (found_in input (plan, bytes, lines))) where
-  abbrev part_of : Plan → (number : ℕ) → List (List ℕ) → Result (Found Said) (At Rule)
+  abbrev part_of : Plan → (number : ℕ) → List (List ℕ) → Result (Found Content) (At Rule)
   part_of p = part_over (numbers_of p)
 
-  abbrev shaped : Plan → Said → Shape
+  abbrev shaped : Plan → Content → Shape
   shaped p said = shape_for p (registers said)
 
-  abbrev defined : Result (Layered Said) Refusal
+  abbrev defined : Result (Layered Content) Refusal
   defined = layered_by name part_over registers input
 
-  abbrev part_read : Result (Found Said) (At Rule)
+  abbrev part_read : Result (Found Content) (At Rule)
   part_read = part_of plan (1 + lines) (lines_of behind)
 
   by_part : defined ≡ behind_part name part_of shaped plan (1 + lines) part_read
@@ -108,7 +108,7 @@ module _ {Said : Type 0} (name : Part)
   part_refused (error.Refused refused) fails =
       by_part ∙ ap (behind_part name part_of shaped plan (1 + lines)) fails
 
-  module _ (said : Said) (part_bytes part_lines : ℕ)
+  module _ (said : Content) (part_bytes part_lines : ℕ)
       (part_is : part_read ≡ Ok (record {
         value = said;
         taken = part_lines;

@@ -2,7 +2,7 @@ ghost use Rattle.std.specs.Prelude.{◌≡◌, IfOk};
 ghost use Rattle.plan_laws.specs.PlanMeaning.{plan_meaning};
 ghost use Rattle.state_codec.specs.Shapes.{shape_with};
 ghost use Rattle.counter_core.specs.Overlays.{LayerFits};
-ghost use Rattle.adversary_script.specs.ScriptPart.{IsFor};
+ghost use Rattle.adversary_script.specs.ScriptPart.{IsScriptForPlan};
 ghost use Rattle.answers.specs.LayeredRuns.{IsBegun};
 
 use adversary_script::Script;
@@ -26,7 +26,7 @@ pub fn runner_of<O: Overlay>(
 ) -> Result<Runner<O>, NoMemory>
     requires over { LayerFits (O.layer overlay) (plan_meaning plan.now) }
     requires shape { shape ≡ shape_with plan.now (O.layer overlay).values (O.layer overlay).extra }
-    requires script { IsFor plan.now shape script }
+    requires script { IsScriptForPlan plan.now shape script }
     ensures { IfOk result (IsBegun O.layer O.kept plan.now script overlay) }
 {
     plan.facts();

@@ -1,7 +1,7 @@
 -- What the best attack of a search is.
 use Rattle.std.specs.Prelude.{◌≡◌, ℕ, ◌<◌, ◌≤◌, length, Option, Some, None, Ok}
 use Rattle.state_codec.specs.Shapes.{Shape}
-use Rattle.machines.specs.Machines.{Machine, IsBorne}
+use Rattle.machines.specs.Machines.{Machine, IsToleratedBy}
 use Rattle.adversary_script.specs.Scripts.{Script}
 use Rattle.adversary_script.specs.Eras.{faulty_of_era}
 use Rattle.machine_runner.specs.Laws.{IsReadFor}
@@ -30,7 +30,7 @@ module _ (machine : Machine) (shape : Shape) (first_line : ℕ) where
     pub script : Script
     pub read : script_in machine shape first_line (attack_text machine attack) ≡ Ok script
     pub for : IsReadFor machine script
-    pub borne : (j : ℕ) → j ≤ length script.eras → IsBorne machine (faulty_of_era script j)
+    pub borne : (j : ℕ) → j ≤ length script.eras → IsToleratedBy machine (faulty_of_era script j)
     pub is : lock ≡ lock_of machine script
     pub first : IsFirstLocked machine script (played_at machine script) 0 script.rounds lock
 

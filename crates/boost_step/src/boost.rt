@@ -3,7 +3,7 @@ ghost use Rattle.construction.specs.Votes.{block};
 ghost use Rattle.plan_numbers.specs.Numbers.{line, level_of};
 ghost use Rattle.plan_numbers.specs.Premises.{first_premise, unless};
 ghost use Rattle.counter_core.specs.Meanings.{written};
-ghost use Rattle.counter_core.specs.Working.{IsFor, IsAsRoomy};
+ghost use Rattle.counter_core.specs.Working.{IsWorkFor, IsAsRoomy};
 ghost use Rattle.plan_laws.specs.Boosted.{inner_state, level_register, boosted, BoostedRange};
 ghost use Rattle.plan_laws.specs.Boosted.{StandsOn};
 ghost use Rattle.plan_laws.proofs.BoostLaws.{boosted_sizes, boosted_stays_in_range};
@@ -104,7 +104,7 @@ fn level_register<A: Counter>(
     requires range { All (BoostedRange (A.in_range inner.now) (A.meaning inner.now).depth
         nums.now.modulus) heard.now }
     requires deep { All (λ s. (A.meaning inner.now).depth + 1 ≤ length s.registers) heard.now }
-    requires work { IsFor nums.now.nodes work.old }
+    requires work { IsWorkFor nums.now.nodes work.old }
     ensures register { result ≡ level_register (A.meaning inner.now) (level_of nums.now) place
         heard.now }
     ensures work { IsAsRoomy work.old work.new }
@@ -125,7 +125,7 @@ fn step_in_block<A: Counter>(
         (place / m.nodes + 1) * m.nodes ≤ length heard.now }
     requires range { All (A.in_range inner.now) heard.now }
     requires deep { All (λ s. (A.meaning inner.now).depth ≤ length s.registers) heard.now }
-    requires work { IsFor (A.meaning inner.now).nodes work.old }
+    requires work { IsWorkFor (A.meaning inner.now).nodes work.old }
     requires out { (A.meaning inner.now).depth ≤ length out.old.registers }
     ensures work { IsAsRoomy work.old work.new }
     ensures out { let m = A.meaning inner.now in
@@ -151,7 +151,7 @@ fn step_below<A: Counter>(
     requires heard { length heard.now ≡ nums.now.nodes }
     requires range { All (A.in_range inner.now) heard.now }
     requires deep { All (λ s. (A.meaning inner.now).depth ≤ length s.registers) heard.now }
-    requires work { IsFor nums.now.nodes work.old }
+    requires work { IsWorkFor nums.now.nodes work.old }
     requires out { (A.meaning inner.now).depth ≤ length out.old.registers }
     ensures work { IsAsRoomy work.old work.new }
     ensures out { let m = A.meaning inner.now in

@@ -4,7 +4,7 @@ ghost use Rattle.sync_types.specs.States.{register_at};
 ghost use Rattle.construction.specs.Votes.{lead, beat_heard};
 ghost use Rattle.construction.specs.Steps.{state_of, register_after};
 ghost use Rattle.plan_numbers.specs.Numbers.{level_of};
-ghost use Rattle.counter_core.specs.Working.{IsFor};
+ghost use Rattle.counter_core.specs.Working.{IsWorkFor};
 ghost use Rattle.boost_step.specs.Numbers.{AreNumbers, block_nodes, in_blocks};
 ghost use Rattle.boost_step.specs.Kept.{KeepsOutputs};
 
@@ -34,7 +34,7 @@ fn next_interval(interval: &Divisor, leaders: u64) -> Divisor
 /// The block that leads: the one for which most blocks vote, by the inner outputs in `work`.
 pub fn lead(nums: &LevelNums, work: &mut Work) -> u32
     requires numbers { AreNumbers nums.now }
-    requires work { IsFor nums.now.nodes work.old }
+    requires work { IsWorkFor nums.now.nodes work.old }
     ensures lead { let outputs = take (in_blocks nums.now) work.old.outputs.items in
         result ≡ lead (level_of nums.now) (block_nodes nums.now) outputs }
     ensures below { result < nums.now.leaders }
@@ -58,7 +58,7 @@ pub fn lead(nums: &LevelNums, work: &mut Work) -> u32
 /// outputs in `work`.
 pub fn beat(nums: &LevelNums, work: &mut Work) -> u64
     requires numbers { AreNumbers nums.now }
-    requires work { IsFor nums.now.nodes work.old }
+    requires work { IsWorkFor nums.now.nodes work.old }
     ensures beat { let outputs = take (in_blocks nums.now) work.old.outputs.items in
         result ≡ beat_heard (level_of nums.now) (block_nodes nums.now) outputs }
     ensures below { result < nums.now.beat }
@@ -88,7 +88,7 @@ pub fn level_step(
     requires deep { All (λ s. register < length s.registers) heard.now }
     requires range { All (λ s. IfSome (register_at register s).a (λ a. a < nums.now.modulus))
         heard.now }
-    requires work { IsFor nums.now.nodes work.old }
+    requires work { IsWorkFor nums.now.nodes work.old }
     ensures register { result ≡ register_after (block_nodes nums.now) (level_of nums.now)
         (register_at register (state_of heard.now place))
         (take (in_blocks nums.now) work.old.outputs.items)

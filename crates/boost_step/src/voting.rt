@@ -1,7 +1,7 @@
 ghost use Rattle.std.specs.Prelude.{◌≡◌, ◌<◌, take};
 ghost use Rattle.construction.specs.Votes.{vote};
 ghost use Rattle.plan_numbers.specs.Numbers.{level_of};
-ghost use Rattle.counter_core.specs.Working.{IsFor};
+ghost use Rattle.counter_core.specs.Working.{IsWorkFor};
 ghost use Rattle.boost_step.specs.Numbers.{AreNumbers, block_nodes, in_blocks};
 ghost use Rattle.boost_step.specs.Kept.{KeepsOutputs};
 
@@ -15,7 +15,7 @@ use plan_numbers::LevelNums;
 pub fn vote(nums: &LevelNums, i: u32, work: &mut Work) -> u64
     requires numbers { AreNumbers nums.now }
     requires block { i < nums.now.blocks }
-    requires work { IsFor nums.now.nodes work.old }
+    requires work { IsWorkFor nums.now.nodes work.old }
     ensures vote { let outputs = take (in_blocks nums.now) work.old.outputs.items in
         result ≡ vote (level_of nums.now) (block_nodes nums.now) outputs i }
     ensures work { KeepsOutputs work.old work.new }

@@ -18,7 +18,7 @@ use Rattle.layer_laws.specs.CounterSlots.{slot_length}
 use Rattle.layer_laws.proofs.PlanCounters.{plan_numbers_are}
 use Rattle.consensus_layer.specs.declared.agree_lines.AgreeStage.{AgreeStage}
 use Rattle.consensus_layer.specs.declared.agree_lines.AgreeStage.TheVariants.{Begun, Valued, Given}
-use Rattle.consensus_layer.specs.AgreeSaid.{AgreeSaid}
+use Rattle.consensus_layer.specs.AgreeContent.{AgreeContent}
 use Rattle.consensus_layer.specs.AgreePart.{AgreeSoFar, nothing_read_over, inputs_tested}
 use Rattle.consensus_layer.specs.AgreePart.{at_stage, with_inputs, agree_step, IsForNumbers}
 use Rattle.consensus_layer.specs.AgreeTexts.{values_line, inputs_line, agree_text, AgreeTextIsRead}
@@ -54,11 +54,11 @@ inputs_count (word ∷ words) =
     counts (joined (codes "inputs" ∷ word ∷ words)) (omega arith) refl
 
 -- how the part is read on
-abbrev read_on : AgreeSoFar → (taken number : ℕ) → List ℕ → Result (Found AgreeSaid) (At Rule)
+abbrev read_on : AgreeSoFar → (taken number : ℕ) → List ℕ → Result (Found AgreeContent) (At Rule)
 read_on s taken number text =
     part_from (with_skips agree_step Form) Form s taken number (lines_of text)
 
-module _ (numbers : Numbers) (are : AreNumbers numbers) (said : AgreeSaid)
+module _ (numbers : Numbers) (are : AreNumbers numbers) (said : AgreeContent)
     (for : IsForNumbers numbers said) where
   abbrev whole : Bool
   whole = numbers.modulus % slot_length numbers.faults == 0

@@ -15,14 +15,14 @@ use Rattle.sync_types.specs.declared.answers.Rule.TheVariants.{Form, Range}
 use Rattle.construction.specs.Plans.{Plan}
 use Rattle.layer_laws.specs.Numbers.{Numbers, numbers_of}
 use Rattle.layer_laws.specs.CounterSlots.{slot_length}
-use Rattle.consensus_layer.specs.AgreeSaid.{AgreeSaid}
+use Rattle.consensus_layer.specs.AgreeContent.{AgreeContent}
 use Rattle.consensus_layer.specs.PartLines.{head_tested, number_within}
 use Rattle.consensus_layer.specs.declared.agree_lines.AgreeStage.{AgreeStage}
 use Rattle.consensus_layer.specs.declared.agree_lines.AgreeStage.TheVariants.{Unread, Begun, Valued}
 use Rattle.consensus_layer.specs.declared.agree_lines.AgreeStage.TheVariants.{Given}
 use Rattle.consensus_layer.specs.AgreePart.{AgreeSoFar, nothing_read_over, inputs_tested}
 use Rattle.consensus_layer.specs.AgreePart.{inputs_in, at_stage, with_inputs, step_at, agree_step}
-use Rattle.consensus_layer.specs.AgreePart.{part_over, IsForNumbers, part_of, IsFor}
+use Rattle.consensus_layer.specs.AgreePart.{part_over, IsForNumbers, part_of, IsAgreeForPlan}
 use Rattle.consensus_layer.proofs.PartLines.{head_fits, IsWithin, is_within, all_below}
 
 abbrev IsWhole : Numbers → Type 0
@@ -87,7 +87,7 @@ record FitSoFar (numbers : Numbers) (s : AgreeSoFar) : Type 0 where
   stage : IsStage numbers s.stage s.inputs
 
 module _ (numbers : Numbers) where
-  abbrev Goes : Next AgreeSoFar AgreeSaid Rule → Type 0
+  abbrev Goes : Next AgreeSoFar AgreeContent Rule → Type 0
   Goes next = After (FitSoFar numbers) (IsForNumbers numbers) next
 
   valued : (s : AgreeSoFar) → s.stage ≡ Begun → FitSoFar numbers s → (values : ℕ)
@@ -151,5 +151,5 @@ inputs_fit_over numbers number lines =
     lines (nothing_read_over numbers) 0 number (begins numbers)
 
 pub inputs_fit : (plan : Plan) (number : ℕ) (lines : List (List ℕ))
-    → IfOk (part_of plan number lines) (λ found. IsFor plan found.value)
+    → IfOk (part_of plan number lines) (λ found. IsAgreeForPlan plan found.value)
 inputs_fit plan = inputs_fit_over (numbers_of plan)

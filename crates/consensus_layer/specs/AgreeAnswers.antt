@@ -8,11 +8,11 @@ use Rattle.layer_laws.specs.Numbers.{Numbers, numbers_of}
 use Rattle.consensus_layer.specs.declared.agreement.Agreement.{Agreement}
 use Rattle.consensus_layer.specs.Agreements.{agree_layer_over}
 use Rattle.consensus_layer.specs.AgreementsSeen.{layer_seen, decisions_seen}
-use Rattle.consensus_layer.specs.AgreeSaid.{AgreeSaid}
+use Rattle.consensus_layer.specs.AgreeContent.{AgreeContent}
 use Rattle.consensus_layer.specs.AgreePart.{part_over}
 
 -- consensus on the inputs that are said, with 0 as each node's decision
-pub record IsFreshOver (numbers : Numbers) (said : AgreeSaid) (agreement : Agreement)
+pub record IsFreshOver (numbers : Numbers) (said : AgreeContent) (agreement : Agreement)
     : Type 0 where
   pub layer : layer_seen agreement ≡ agree_layer_over numbers said.values said.inputs
   pub kept : decisions_seen agreement ≡ replicate numbers.nodes 0

@@ -11,7 +11,7 @@ use Rattle.sync_types.specs.declared.answers.Rule.TheVariants.{Form, Range}
 use Rattle.construction.specs.Plans.{Plan}
 use Rattle.layer_laws.specs.Numbers.{Numbers, numbers_of as numbers_of_plan}
 use Rattle.layer_laws.specs.CounterSlots.{slot_length}
-use Rattle.consensus_layer.specs.AgreeSaid.{AgreeSaid}
+use Rattle.consensus_layer.specs.AgreeContent.{AgreeContent}
 use Rattle.consensus_layer.specs.PartLines.{head_tested, number_within}
 use Rattle.consensus_layer.specs.declared.agree_lines.AgreeStage.{AgreeStage}
 use Rattle.consensus_layer.specs.declared.agree_lines.AgreeStage.TheVariants.{Unread, Begun, Valued}
@@ -56,7 +56,7 @@ abbrev pub with_inputs : (values : ℕ) → AgreeSoFar → List ℕ → AgreeSoF
 with_inputs values s inputs = record s { stage = Given values; inputs = inputs }
 
 -- a line after those that were read
-abbrev pub step_at : AgreeStage → AgreeSoFar → List ℕ → Next AgreeSoFar AgreeSaid Rule
+abbrev pub step_at : AgreeStage → AgreeSoFar → List ℕ → Next AgreeSoFar AgreeContent Rule
 step_at Unread s line =
     goes_on (λ _. at_stage s Begun) (head_tested (codes "agree 1") s.whole line)
 step_at Begun s line =
@@ -66,18 +66,19 @@ step_at (Given values) s line =
     if bytes_eq line (codes "end") then ends (record { values = values; inputs = s.inputs })
     else refuses Form
 
-abbrev pub agree_step : AgreeSoFar → List ℕ → Next AgreeSoFar AgreeSaid Rule
+abbrev pub agree_step : AgreeSoFar → List ℕ → Next AgreeSoFar AgreeContent Rule
 agree_step s line = step_at s.stage s line
 
 -- The agree part at the beginning of these lines, of which the first has that number, for a counter
 -- of these numbers: what it says, how many lines it took through `end`, and the lines after it; or
 -- the first line that fails, with the first rule that it fails.
-abbrev pub part_over : Numbers → (number : ℕ) → List (List ℕ) → Result (Found AgreeSaid) (At Rule)
+abbrev pub part_over : Numbers → (number : ℕ) → List (List ℕ)
+    → Result (Found AgreeContent) (At Rule)
 part_over numbers number lines =
     part_from (with_skips agree_step Form) Form (nothing_read_over numbers) 0 number lines
 
 -- what an agree part says that was read for a counter of these numbers
-pub record IsForNumbers (numbers : Numbers) (said : AgreeSaid) : Type 0 where
+pub record IsForNumbers (numbers : Numbers) (said : AgreeContent) : Type 0 where
   pub whole : numbers.modulus % slot_length numbers.faults ≡ 0
   pub two : 2 ≤ said.values
   pub few : said.values ≤ 65536
@@ -89,8 +90,8 @@ pub record IsForNumbers (numbers : Numbers) (said : AgreeSaid) : Type 0 where
 abbrev pub nothing_read : Plan → AgreeSoFar
 nothing_read plan = nothing_read_over (numbers_of_plan plan)
 
-abbrev pub part_of : Plan → (number : ℕ) → List (List ℕ) → Result (Found AgreeSaid) (At Rule)
+abbrev pub part_of : Plan → (number : ℕ) → List (List ℕ) → Result (Found AgreeContent) (At Rule)
 part_of plan = part_over (numbers_of_plan plan)
 
-abbrev pub IsFor : Plan → AgreeSaid → Type 0
-IsFor plan = IsForNumbers (numbers_of_plan plan)
+abbrev pub IsAgreeForPlan : Plan → AgreeContent → Type 0
+IsAgreeForPlan plan = IsForNumbers (numbers_of_plan plan)

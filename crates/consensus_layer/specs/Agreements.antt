@@ -4,7 +4,7 @@ use Rattle.std.specs.Prelude.{◌≡◌, ℕ, ◌+◌, ◌%◌, ◌<◌, List, [
 use Rattle.std.specs.Prelude.{slice_index}
 use Rattle.sync_types.specs.States.{State}
 use Rattle.construction.specs.Plans.{Plan, plan_faults, plan_modulus}
-use Rattle.construction.specs.Runs.{is_in, IsState, IsBorne}
+use Rattle.construction.specs.Runs.{is_in, IsState, IsToleratedBy}
 use Rattle.plan_numbers.specs.Premises.{IsAccepted}
 use Rattle.plan_laws.specs.PlanMeaning.{plan_meaning}
 use Rattle.counter_core.specs.Meanings.{Meaning}
@@ -89,6 +89,6 @@ module _ (plan : Plan) where
 abbrev pub EveryRunDecides : Type 0
 EveryRunDecides = (plan : Plan) → IsAccepted plan
     → plan_modulus plan % slot_length (plan_faults plan) ≡ 0
-    → (values : ℕ) (inputs : List ℕ) (faulty : List ℕ) → IsBorne plan faulty
+    → (values : ℕ) (inputs : List ℕ) (faulty : List ℕ) → IsToleratedBy plan faulty
     → (first : ℕ) (run : List (Scene ℕ)) → AgreeRun plan values inputs faulty first run
     → Decides plan inputs faulty run

@@ -2,7 +2,7 @@
 use Rattle.std.specs.Prelude.{◌≡◌, ℕ, ◌+◌, ◌-◌, ◌%◌, ◌<◌, List, [], ◌∷◌, length, false, unwrap_or}
 use Rattle.sync_types.specs.States.{State}
 use Rattle.construction.specs.Plans.{Plan, plan_faults, plan_modulus, plan_bound}
-use Rattle.construction.specs.Runs.{is_in, IsBorne}
+use Rattle.construction.specs.Runs.{is_in, IsToleratedBy}
 use Rattle.plan_numbers.specs.Premises.{IsAccepted}
 use Rattle.plan_laws.specs.PlanMeaning.{plan_meaning}
 use Rattle.counter_core.specs.Meanings.{Meaning}
@@ -85,7 +85,7 @@ ChangingInputsDecideOver counter is_state = IsSettling counter is_state
 abbrev pub ChangingInputsDecide : Type 0
 ChangingInputsDecide = (plan : Plan) → IsAccepted plan
     → plan_modulus plan % slot_length (plan_faults plan) ≡ 0
-    → (values : ℕ) (input : (v t : ℕ) → ℕ) (faulty : List ℕ) → IsBorne plan faulty
+    → (values : ℕ) (input : (v t : ℕ) → ℕ) (faulty : List ℕ) → IsToleratedBy plan faulty
     → (first : ℕ) (run : List (Scene Noted))
     → plan_runs.LayerRun plan (changing_layer plan values input) faulty first run
     → (t : ℕ) → plan_bound plan < t → t + slot_length (plan_faults plan) < length run

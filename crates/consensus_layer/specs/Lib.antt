@@ -3,7 +3,7 @@ pub mod Heeding
 pub mod Agreements
 pub mod AgreementsSeen
 pub mod AgreeLaws
-pub mod AgreeSaid
+pub mod AgreeContent
 pub mod PartLines
 pub mod AgreePart
 pub mod AgreeAnswers

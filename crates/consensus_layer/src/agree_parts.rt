@@ -10,9 +10,9 @@ pub struct AgreePart {
 }
 
 impl Model for AgreePart {
-    ghost use Rattle.consensus_layer.specs.AgreeSaid.{AgreeSaid};
+    ghost use Rattle.consensus_layer.specs.AgreeContent.{AgreeContent};
 
-    ghost Value = { AgreeSaid };
+    ghost Value = { AgreeContent };
 
     ghost view = { λ p. record { values = p.values; inputs = p.inputs.items } };
 }

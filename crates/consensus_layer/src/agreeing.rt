@@ -1,5 +1,5 @@
 ghost use Rattle.std.specs.Prelude.{◌≡◌, ◌*◌, ◌<◌, ◌≤◌, length};
-ghost use Rattle.counter_core.specs.Working.{IsFor, IsAsRoomy};
+ghost use Rattle.counter_core.specs.Working.{IsWorkFor, IsAsRoomy};
 ghost use Rattle.layer_laws.specs.CounterSlots.{slot_length, agreed};
 ghost use Rattle.consensus_layer.specs.Agreeing.{agree_step};
 
@@ -16,7 +16,7 @@ pub fn agree_at(values: &HeardRegister<'_>, node: u32, kind: u64, king: u32, wor
     requires kind { kind ≤ 2 }
     requires node { node < length values.now.states }
     requires king { king < length values.now.states }
-    requires work { IsFor (length values.now.states) work.old }
+    requires work { IsWorkFor (length values.now.states) work.old }
     ensures register { result ≡ agreed (length values.now.states) values.now.faults
         values.now.register node kind king values.now.states }
     ensures work { IsAsRoomy work.old work.new }
@@ -65,7 +65,7 @@ pub fn agree(
 ) -> Agreed
     requires quorum { 3 * values.now.faults < length values.now.states }
     requires node { node < length values.now.states }
-    requires work { IsFor (length values.now.states) work.old }
+    requires work { IsWorkFor (length values.now.states) work.old }
     ensures step { let s = agree_step (length values.now.states) values.now.faults
         values.now.register node input output values.now.states in
         (result.register ≡ s.register) × (result.decided ≡ s.decided) }

@@ -7,7 +7,7 @@ ghost use Rattle.layer_laws.specs.Numbers.{Numbers};
 ghost use Rattle.consensus_layer.specs.Agreements.{EveryRunDecides, EveryRunDecidesOver};
 ghost use Rattle.consensus_layer.specs.ChangingInputs.{ChangingInputsDecide};
 ghost use Rattle.consensus_layer.specs.ChangingInputs.{ChangingInputsDecideOver};
-ghost use Rattle.consensus_layer.specs.AgreePart.{part_over, IsForNumbers, part_of, IsFor};
+ghost use Rattle.consensus_layer.specs.AgreePart.{part_over, IsForNumbers, part_of, IsAgreeForPlan};
 ghost use Rattle.consensus_layer.specs.AgreeTexts.{AgreeTextIsRead, AgreeTextIsReadOver};
 
 use layer_laws::AnyCounter;
@@ -54,7 +54,7 @@ pub fn changing_inputs_decide()
 /// to 65536, and the plan's modulus is a multiple of a slot's length.
 pub fn inputs_fit()
     ensures { (plan : Plan) (number : ℕ) (lines : List (List ℕ))
-        → IfOk (part_of plan number lines) (λ found. IsFor plan found.value) }
+        → IfOk (part_of plan number lines) (λ found. IsAgreeForPlan plan found.value) }
 {}
 
 /// The text of values and inputs for an accepted plan is read as these, at the beginning of any

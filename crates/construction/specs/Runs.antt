@@ -108,7 +108,7 @@ abbrev pub Counts : (plan : Plan) (faulty : List ℕ) (run : List (List State)) 
 Counts plan faulty run = CountsFrom plan faulty run (plan_bound plan)
 
 -- a faulty set that the plan tolerates: rising ids of nodes, at most F
-pub record IsBorne (plan : Plan) (faulty : List ℕ) : Type 0 where
+pub record IsToleratedBy (plan : Plan) (faulty : List ℕ) : Type 0 where
   pub rising : IsStrictlyIncreasing faulty
   pub ids : All (λ id. id < plan_nodes plan) faulty
   pub few : length faulty ≤ plan_faults plan
@@ -116,7 +116,7 @@ pub record IsBorne (plan : Plan) (faulty : List ℕ) : Type 0 where
 -- whatever the start and the lies, with each faulty set that the plan tolerates
 abbrev pub Settles : Plan → Type 0
 Settles plan =
-    (faulty : List ℕ) (run : List (List State)) → IsBorne plan faulty → Run plan faulty run
+    (faulty : List ℕ) (run : List (List State)) → IsToleratedBy plan faulty → Run plan faulty run
     → Counts plan faulty run
 
 -- the registers at a level of all correct nodes are one, finite and marked

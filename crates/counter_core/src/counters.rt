@@ -3,7 +3,7 @@ ghost use Rattle.sync_types.specs.States.{State, zero_state};
 ghost use Rattle.counter_core.specs.Meanings.{Meaning, written};
 ghost use Rattle.counter_core.specs.Runs.{Settles};
 ghost use Rattle.counter_core.specs.Laws.{Sizes, StaysInRange, IgnoresFurther};
-ghost use Rattle.counter_core.specs.Working.{IsFor, IsAsRoomy};
+ghost use Rattle.counter_core.specs.Working.{IsWorkFor, IsAsRoomy};
 
 use crate::heard::Heard;
 use crate::work::Work;
@@ -66,7 +66,7 @@ pub trait Counter: Drop {
         requires heard { length heard.now ≡ (meaning self.now).nodes }
         requires range { All (in_range self.now) heard.now }
         requires deep { All (λ s. (meaning self.now).depth ≤ length s.registers) heard.now }
-        requires work { IsFor (meaning self.now).nodes work.old }
+        requires work { IsWorkFor (meaning self.now).nodes work.old }
         requires out { (meaning self.now).depth ≤ length out.old.registers }
         ensures work { IsAsRoomy work.old work.new }
         ensures out { out.new

@@ -54,12 +54,12 @@ SaysWhy error.NoMemory = Unit {0}
 SaysWhy other = ⊥
 
 -- what an error of a picture is
-abbrev pub IsFor : DrawError → ProgramError NoRun → Type 0
-IsFor (drawing.Chart (chart.Line line wanted)) given = SaysWhy given
-IsFor drawing.Open given = SaysWhy given
-IsFor (drawing.Chart chart.NoMemory) given = given ≡ error.NoMemory
-IsFor drawing.NoMemory given = given ≡ error.NoMemory
-IsFor drawing.Write given = given ≡ error.WriteFault
+abbrev pub IsErrorFor : DrawError → ProgramError NoRun → Type 0
+IsErrorFor (drawing.Chart (chart.Line line wanted)) given = SaysWhy given
+IsErrorFor drawing.Open given = SaysWhy given
+IsErrorFor (drawing.Chart chart.NoMemory) given = given ≡ error.NoMemory
+IsErrorFor drawing.NoMemory given = given ≡ error.NoMemory
+IsErrorFor drawing.Write given = given ≡ error.WriteFault
 
 -- What was written of an input: its picture, or its page, or a prefix of that, or nothing.
 abbrev pub DrawsText : {T : Type 0} → Form → (input : List ℕ) → Result T (ProgramError NoRun)

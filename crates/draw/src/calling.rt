@@ -2,7 +2,7 @@
 
 ghost use Rattle.std.specs.Prelude.{◌≡◌, IfErr, IfOk, IsErrOf};
 ghost use Rattle.texts.specs.Lines.{lines_of};
-ghost use Rattle.draw.specs.Conduct.{Draws, DrawsInput, HandsOn, IsEcho, IsFor, SaysWhy};
+ghost use Rattle.draw.specs.Conduct.{Draws, DrawsInput, HandsOn, IsEcho, IsErrorFor, SaysWhy};
 ghost use Rattle.draw.specs.Conduct.{first_of, is_refusal};
 
 use crate::echoes::echoed;
@@ -64,7 +64,7 @@ fn refused(alloc: Global, error: DrawError) -> NotDrawn
 
 /// Why there is no picture, or not all of it.
 fn not_drawn(alloc: Global, error: DrawError) -> NotDrawn
-    ensures { IsFor error result }
+    ensures { IsErrorFor error result }
 {
     match error {
         DrawError::Chart(ChartError::Line { .. }) => refused(alloc, error),

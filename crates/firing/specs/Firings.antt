@@ -5,7 +5,7 @@ use Rattle.std.specs.List.{list_any}
 use Rattle.std.specs.Option.{option_eq}
 use Rattle.sync_types.specs.States.{State}
 use Rattle.construction.specs.Plans.{Plan, plan_faults, plan_modulus, plan_bound}
-use Rattle.construction.specs.Runs.{is_in, IsState, IsBorne}
+use Rattle.construction.specs.Runs.{is_in, IsState, IsToleratedBy}
 use Rattle.plan_numbers.specs.Premises.{IsAccepted}
 use Rattle.plan_laws.specs.PlanMeaning.{plan_meaning}
 use Rattle.counter_core.specs.Meanings.{Meaning}
@@ -117,7 +117,7 @@ FiresTogether plan = FiresTogetherOver (plan_meaning plan)
 abbrev pub EveryRunFiresTogether : Type 0
 EveryRunFiresTogether = (plan : Plan) → IsAccepted plan
     → plan_modulus plan % slot_length (plan_faults plan) ≡ 0
-    → (requests : List Request) (faulty : List ℕ) → IsBorne plan faulty
+    → (requests : List Request) (faulty : List ℕ) → IsToleratedBy plan faulty
     → (first : ℕ) (run : List (Scene Fire)) → FireRun plan requests faulty first run
     → (t : ℕ) → plan_bound plan < t → t + slot_length (plan_faults plan) < length run
     → AllAre plan faulty (scene run t).states (slot_length (plan_faults plan)) 0

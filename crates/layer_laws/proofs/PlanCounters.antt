@@ -3,7 +3,7 @@ use Rattle.std.proofs.Common.{ℕ, List, arith}
 use Rattle.std.proofs.lemmas.List.Elements.{All-weaker}
 use Rattle.sync_types.specs.States.{State}
 use Rattle.construction.specs.Plans.{Plan, plan_bound, plan_depth}
-use Rattle.construction.specs.Runs.{IsState, IsTold, IsTable, IsConfiguration, IsBorne}
+use Rattle.construction.specs.Runs.{IsState, IsTold, IsTable, IsConfiguration, IsToleratedBy}
 use Rattle.construction.specs.Runs.{Counts}
 use Rattle.construction.specs.Runs as plan_runs
 use Rattle.construction.proofs.Ranges.{length-step_in, step_is_state}
@@ -42,7 +42,7 @@ plan_numbers_are plan accepted =
           let few = s.most in let deep = s.shallow in omega (arith, few, deep);
     }
 
-pub borne_by_counter : (plan : Plan) (faulty : List ℕ) → IsBorne plan faulty
+pub borne_by_counter : (plan : Plan) (faulty : List ℕ) → IsToleratedBy plan faulty
     → Bears (plan_meaning plan) faulty
 borne_by_counter plan faulty borne =
     record { rising = borne.rising; ids = borne.ids; few = borne.few }

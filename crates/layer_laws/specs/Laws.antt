@@ -1,7 +1,7 @@
 -- The laws of runs of a plan with a layer.
 use Rattle.std.specs.Prelude.{◌≡◌, ℕ, ◌+◌, ◌%◌, ◌<◌, ◌≤◌, List, length}
 use Rattle.construction.specs.Plans.{Plan, plan_nodes, plan_faults, plan_modulus, plan_bound}
-use Rattle.construction.specs.Runs.{IsState, Run, IsBorne}
+use Rattle.construction.specs.Runs.{IsState, Run, IsToleratedBy}
 use Rattle.plan_numbers.specs.Premises.{IsAccepted}
 use Rattle.plan_laws.specs.PlanMeaning.{plan_meaning}
 use Rattle.counter_core.specs.Overlays.{Layer, SameNumbers, LayerFits, KeepsRange}
@@ -27,7 +27,7 @@ abbrev pub SlotsAgree : {Kept : Type 0} → Layer Kept → Type 0
 SlotsAgree layer = (plan : Plan) → IsAccepted plan → SameNumbers layer (plan_meaning plan)
     → (period from place : ℕ) → HasSlots layer (plan_faults plan) period from place
     → plan_modulus plan % period ≡ 0
-    → (faulty : List ℕ) → IsBorne plan faulty → (first : ℕ) (run : List (Scene _))
+    → (faulty : List ℕ) → IsToleratedBy plan faulty → (first : ℕ) (run : List (Scene _))
     → LayerRun plan layer faulty first run
     → (t : ℕ) → plan_bound plan ≤ t → t + (from + slot_length (plan_faults plan)) < length run
     → AllAre plan faulty (scene run t).states period 0

@@ -16,7 +16,7 @@ use Rattle.layer_laws.specs.Scenes.{Scene}
 use Rattle.layer_laws.specs.Slots.{slot_length}
 use Rattle.replicated_log.specs.declared.entries.Entry.{Entry}
 use Rattle.replicated_log.specs.EntryLength.{entry_length, owner_at}
-use Rattle.replicated_log.specs.LogSaid.{LogSaid}
+use Rattle.replicated_log.specs.LogContent.{LogContent}
 use Rattle.replicated_log.specs.Logs.{log_layer_over}
 use Rattle.layer_lines.specs.LockTexts.{lock_lines}
 use Rattle.layer_lines.specs.PlayedTexts.{lines_text}
@@ -37,7 +37,7 @@ each_divides m n e whole =
     mod-eq-zero_of_dvd e (dvd_trans e (dvd_of_mod-eq-zero e (mul-mod_left n e))
     (dvd_of_mod-eq-zero (n * e) whole))
 
-module _ (counter : Meaning) (script : Script) (said : LogSaid)
+module _ (counter : Meaning) (script : Script) (said : LogContent)
     (whole : counter.modulus % (counter.nodes * entry_length counter.faults) ≡ 0)
     (counts : ErasCount counter script (log_layer_over (numbers_in counter) said)
     (replicate counter.nodes []))

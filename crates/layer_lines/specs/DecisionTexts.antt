@@ -10,7 +10,7 @@ use Rattle.machine_runner.specs.RunTexts.{bound_line, number_word, words_of}
 use Rattle.layer_laws.specs.Numbers.{numbers_in}
 use Rattle.layer_laws.specs.Scenes.{Scene}
 use Rattle.layer_laws.specs.Slots.{slot_length}
-use Rattle.consensus_layer.specs.AgreeSaid.{AgreeSaid}
+use Rattle.consensus_layer.specs.AgreeContent.{AgreeContent}
 use Rattle.consensus_layer.specs.Agreements.{agree_layer_over, decision}
 use Rattle.layer_lines.specs.LockTexts.{lock_lines}
 use Rattle.layer_lines.specs.PlayedTexts.{Wording, scene_in}
@@ -24,7 +24,7 @@ decision_word scene v = number_word (decision scene v)
 abbrev pub slot_front : (t : ℕ) → List ℕ
 slot_front t = codes "slot " ++ decimal t
 
-module _ (counter : Meaning) (script : Script) (said : AgreeSaid) where
+module _ (counter : Meaning) (script : Script) (said : AgreeContent) where
   abbrev pub slot_of : ℕ
   slot_of = slot_length counter.faults
 
@@ -42,7 +42,7 @@ module _ (counter : Meaning) (script : Script) (said : AgreeSaid) where
       (faulty_at script (t + slot_of)) ∷ codes "\n" ∷ [])
 
 -- all that is written
-abbrev pub decision_text : Meaning → LockTest → Script → AgreeSaid → List ℕ
+abbrev pub decision_text : Meaning → LockTest → Script → AgreeContent → List ℕ
 decision_text counter locked script said =
     concat (bound_line counter.bound
     ∷ slot_lines counter script (slot_length counter.faults)

@@ -12,7 +12,7 @@ use Rattle.layer_laws.specs.Numbers.{numbers_in}
 use Rattle.layer_laws.specs.Scenes.{Scene}
 use Rattle.replicated_log.specs.declared.entries.Entry.{Entry}
 use Rattle.replicated_log.specs.EntryLength.{entry_length, owner_at}
-use Rattle.replicated_log.specs.LogSaid.{LogSaid}
+use Rattle.replicated_log.specs.LogContent.{LogContent}
 use Rattle.replicated_log.specs.Logs.{log_layer_over, log_in}
 use Rattle.layer_lines.specs.LockTexts.{lock_lines}
 use Rattle.layer_lines.specs.PlayedTexts.{Wording, scene_in}
@@ -31,7 +31,7 @@ entry_word scene v = number_word (newest_value (log_in scene.kept v))
 abbrev pub entry_front : (t owner : ℕ) → List ℕ
 entry_front t owner = (codes "entry " ++ decimal t) ++ (codes " owner " ++ decimal owner)
 
-module _ (counter : Meaning) (script : Script) (said : LogSaid) where
+module _ (counter : Meaning) (script : Script) (said : LogContent) where
   -- scene c of what is played, if all logs are empty at first
   abbrev pub log_scene : (c : ℕ) → Scene (List Entry)
   log_scene c = scene_in counter script (log_layer_over (numbers_in counter) said)
@@ -53,7 +53,7 @@ module _ (counter : Meaning) (script : Script) (said : LogSaid) where
       (faulty_at script (t + entry_length counter.faults)) ∷ codes "\n" ∷ [])
 
 -- all that is written
-abbrev pub log_text : Meaning → LockTest → Script → LogSaid → List ℕ
+abbrev pub log_text : Meaning → LockTest → Script → LogContent → List ℕ
 log_text counter locked script said =
     concat (bound_line counter.bound
     ∷ slot_lines counter script (entry_length counter.faults)

@@ -6,14 +6,14 @@ use Rattle.adversary_script.specs.Scripts.{Script}
 use Rattle.machine_runner.specs.FirstLocked.{LockTest}
 use Rattle.layer_laws.specs.Numbers.{numbers_in}
 use Rattle.layer_laws.specs.Slots.{slot_length}
-use Rattle.consensus_layer.specs.AgreeSaid.{AgreeSaid}
+use Rattle.consensus_layer.specs.AgreeContent.{AgreeContent}
 use Rattle.consensus_layer.specs.Agreements.{agree_layer_over}
 use Rattle.firing.specs.declared.requests.Request.{Request}
 use Rattle.firing.specs.declared.fires.Fire.{Fire}
 use Rattle.firing.specs.Firings.{fire_layer_over, unfired}
 use Rattle.replicated_log.specs.declared.entries.Entry.{Entry}
 use Rattle.replicated_log.specs.EntryLength.{entry_length}
-use Rattle.replicated_log.specs.LogSaid.{LogSaid}
+use Rattle.replicated_log.specs.LogContent.{LogContent}
 use Rattle.replicated_log.specs.Logs.{log_layer_over}
 use Rattle.layer_lines.specs.PlayedTexts.{played_text}
 use Rattle.layer_lines.specs.Counting.{ErasCount}
@@ -23,7 +23,7 @@ use Rattle.layer_lines.specs.EntryTexts.{log_text, entry_wording}
 
 -- the lines of consensus, if the modulus is a multiple of a slot
 abbrev pub DecisionsAsDefined : Type 0
-DecisionsAsDefined = (counter : Meaning) (locked : LockTest) (script : Script) (said : AgreeSaid)
+DecisionsAsDefined = (counter : Meaning) (locked : LockTest) (script : Script) (said : AgreeContent)
     → counter.modulus % slot_length counter.faults ≡ 0
     → let layer : Layer ℕ = agree_layer_over (numbers_in counter) said.values said.inputs in
     ErasCount counter script layer (replicate counter.nodes 0)
@@ -43,7 +43,7 @@ FiresAsDefined = (counter : Meaning) (locked : LockTest) (script : Script)
 
 -- the lines of a log, if the modulus is a multiple of an entry of each node
 abbrev pub EntriesAsDefined : Type 0
-EntriesAsDefined = (counter : Meaning) (locked : LockTest) (script : Script) (said : LogSaid)
+EntriesAsDefined = (counter : Meaning) (locked : LockTest) (script : Script) (said : LogContent)
     → counter.modulus % (counter.nodes * entry_length counter.faults) ≡ 0
     → let layer : Layer (List Entry) = log_layer_over (numbers_in counter) said in
     ErasCount counter script layer (replicate counter.nodes [])

@@ -10,7 +10,7 @@ use Rattle.machine_runner.specs.RunTexts.{number_word}
 use Rattle.layer_laws.specs.CounterSlots.{slot_length}
 use Rattle.layer_laws.specs.Numbers.{numbers_in}
 use Rattle.layer_lines.specs.PlayedEras.{PlaysEras}
-use Rattle.consensus_layer.specs.AgreeSaid.{AgreeSaid}
+use Rattle.consensus_layer.specs.AgreeContent.{AgreeContent}
 use Rattle.consensus_layer.specs.AgreePart as agree
 use Rattle.consensus_layer.specs.Agreements.{agree_layer_over}
 use Rattle.firing.specs.declared.requests.Request.{Request}
@@ -18,7 +18,7 @@ use Rattle.firing.specs.FirePart.{AreForNumbers}
 use Rattle.firing.specs.Firings.{fire_layer_over, requests_in, unfired}
 use Rattle.replicated_log.specs.declared.entries.Entry.{Entry}
 use Rattle.replicated_log.specs.EntryLength.{entry_length, owner_at, command_at}
-use Rattle.replicated_log.specs.LogSaid.{LogSaid}
+use Rattle.replicated_log.specs.LogContent.{LogContent}
 use Rattle.replicated_log.specs.LogPart as log
 use Rattle.replicated_log.specs.Logs.{log_layer_over, log_of}
 use Rattle.layer_lines.specs.SlotTexts.{begins_at}
@@ -34,7 +34,7 @@ AllSay counter script c word_of word = (v : ℕ) → v < counter.nodes
 -- ---- consensus
 
 -- the line of a slot that begins in configuration t has one decision
-pub record LineDecides (counter : Meaning) (script : Script) (said : AgreeSaid) (t : ℕ)
+pub record LineDecides (counter : Meaning) (script : Script) (said : AgreeContent) (t : ℕ)
     : Type 0 where
   pub value : ℕ
   pub words : AllSay counter script (t + slot_of counter script said)
@@ -44,7 +44,7 @@ pub record LineDecides (counter : Meaning) (script : Script) (said : AgreeSaid) 
       → slice_index said.inputs v ≡ common) → value ≡ common
 
 abbrev pub LinesDecideOver : (counter : Meaning) (is_state : (v : ℕ) → State → Type 0) → Type 0
-LinesDecideOver counter is_state = (script : Script) (said : AgreeSaid)
+LinesDecideOver counter is_state = (script : Script) (said : AgreeContent)
     → agree.IsForNumbers (numbers_in counter) said
     → PlaysEras counter is_state script
     (agree_layer_over (numbers_in counter) said.values said.inputs) (replicate counter.nodes 0)
@@ -86,7 +86,7 @@ pub record HasNewest (log : List Entry) (entry : Entry) : Type 0 where
 -- The line of a slot that begins in configuration t: its entry stands newest in the log of each
 -- correct node, and the words are the entry's value. If the owner that the line names is correct,
 -- this is what the owner commands at the slot's output.
-pub record LinePuts (counter : Meaning) (script : Script) (said : LogSaid) (t : ℕ) : Type 0 where
+pub record LinePuts (counter : Meaning) (script : Script) (said : LogContent) (t : ℕ) : Type 0 where
   pub entry : Entry
   pub slot : entry.slot ≡ output_at counter script said t
   pub logs : let c = t + entry_length counter.faults in
@@ -103,7 +103,7 @@ pub record LinePuts (counter : Meaning) (script : Script) (said : LogSaid) (t : 
       ≡ command_at counter.nodes counter.faults said.commands owner entry.slot
 
 abbrev pub LinesPutOneOver : (counter : Meaning) (is_state : (v : ℕ) → State → Type 0) → Type 0
-LinesPutOneOver counter is_state = (script : Script) (said : LogSaid)
+LinesPutOneOver counter is_state = (script : Script) (said : LogContent)
     → log.IsForNumbers (numbers_in counter) said
     → PlaysEras counter is_state script (log_layer_over (numbers_in counter) said)
     (replicate counter.nodes [])

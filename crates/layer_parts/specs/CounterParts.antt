@@ -12,9 +12,10 @@ pub record AreFew (registers : Registers) : Type 0 where
   pub few : registers.count ≤ 2
 
 -- what is read is for the counter, and its registers are few
-pub record IsSoundPart {Said : Type 0}
-    (part_over : Numbers → (number : ℕ) → List (List ℕ) → Result (Found Said) (At Rule))
-    (registers : Said → Option Registers) (Fits : Numbers → Said → Type 0) : Type 0 where
+pub record IsSoundPart {Content : Type 0}
+    (part_over : Numbers → (number : ℕ) → List (List ℕ) → Result (Found Content) (At Rule))
+    (registers : Content → Option Registers) (Fits : Numbers → Content → Type 0) : Type 0 where
   pub fits : (numbers : Numbers) (number : ℕ) (lines : List (List ℕ))
       → IfOk (part_over numbers number lines) (λ found. Fits numbers found.value)
-  pub few : (numbers : Numbers) (said : Said) → Fits numbers said → IfSome (registers said) AreFew
+  pub few : (numbers : Numbers) (said : Content) → Fits numbers said
+      → IfSome (registers said) AreFew

@@ -15,7 +15,7 @@ use std::alloc::Global;
 use sync_types::{Part, Rule};
 
 impl CounterPart for Agreement {
-    type Said = AgreePart;
+    type Content = AgreePart;
 
     ghost NAME = { part.Agree };
 

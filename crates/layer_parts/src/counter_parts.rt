@@ -17,23 +17,23 @@ use sync_types::{Part, Rule};
 /// A part between a plan and a script that is read for a counter.
 pub trait CounterPart: Drop {
     /// What the part says.
-    type Said;
+    type Content;
 
     ghost NAME: { Part };
 
     // The part for a counter of these numbers, at the beginning of lines of which the first has
     // that number.
     ghost said_in: { Numbers → (number : ℕ) → List (List ℕ)
-        → Result (Found Self.Said) (At Rule) };
+        → Result (Found Self.Content) (At Rule) };
 
     // The registers that states have for what is said.
-    ghost registers: { Self.Said → Option Registers };
+    ghost registers: { Self.Content → Option Registers };
 
     // What is said is for a counter of these numbers.
-    ghost fits: { Numbers → Self.Said → Type 0 };
+    ghost fits: { Numbers → Self.Content → Type 0 };
 
     // This is made of what is said, for such a counter.
-    ghost is_made: { Numbers → Self.Said → Self → Type 0 };
+    ghost is_made: { Numbers → Self.Content → Self → Type 0 };
 
     /// The part's name in the line of a refusal.
     const NAME: Part;
@@ -56,7 +56,7 @@ pub trait CounterPart: Drop {
 
     /// The registers that states have for it.
     fn registers(&self) -> Option<Registers>
-        ensures { (numbers : Numbers) (said : Self.Said) → is_made numbers said self.now
+        ensures { (numbers : Numbers) (said : Self.Content) → is_made numbers said self.now
             → result ≡ registers said };
 
     // What is read is for the counter, and its registers are few.

@@ -15,7 +15,7 @@ use std::alloc::Global;
 use sync_types::{Part, Rule};
 
 impl CounterPart for Firing {
-    type Said = Requests;
+    type Content = Requests;
 
     ghost NAME = { part.Fire };
 

@@ -13,15 +13,15 @@ pub trait LayerPart: CounterPart + Overlay {
     type LayerLines: Lines<Self>;
 
     // The layer that is said, and what is written of it.
-    ghost words: { LayerWords Self.Said Self.Kept };
+    ghost words: { LayerWords Self.Content Self.Kept };
 
     /// The lines for a counter of these numbers, which what is said fits.
     fn lines(numbers: &CounterNumbers) -> Self::LayerLines
-        requires { (said : Self.Said) × Self.fits numbers.now said }
+        requires { (said : Self.Content) × Self.fits numbers.now said }
         ensures { Self.LayerLines.wording result ≡ words.wording numbers.now };
 
     // What is made of what is said is the layer, and has kept nothing yet.
-    ghost fresh: { (numbers : Numbers) (said : Self.Said) (part : Self)
+    ghost fresh: { (numbers : Numbers) (said : Self.Content) (part : Self)
         → Self.is_made numbers said part
         → IsFresh words numbers said (Self.layer part) (Self.kept part) };
 

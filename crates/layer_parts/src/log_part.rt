@@ -15,7 +15,7 @@ use std::alloc::Global;
 use sync_types::{Part, Rule};
 
 impl CounterPart for Replica {
-    type Said = LogPart;
+    type Content = LogPart;
 
     ghost NAME = { part.Log };
 

@@ -12,7 +12,7 @@ use std::alloc::Global;
 use sync_types::{Part, Rule};
 
 impl CounterPart for SlotTable {
-    type Said = SlotTable;
+    type Content = SlotTable;
 
     ghost NAME = { part.Slots };
 

@@ -9,7 +9,7 @@ use Rattle.construction.specs.Steps.{state_of}
 use Rattle.construction.specs.Runs.{is_in, configuration}
 use Rattle.counter_core.specs.Meanings.{Meaning, cut}
 use Rattle.counter_core.specs.Overlays.{Layer}
-use Rattle.machines.specs.Machines.{Machine, IsState, IsBorne, Run, CountsFrom}
+use Rattle.machines.specs.Machines.{Machine, IsState, IsToleratedBy, Run, CountsFrom}
 use Rattle.adversary_script.specs.Scripts.{Script}
 use Rattle.adversary_script.specs.Eras.{first_of_era, end_of_era, faulty_of_era}
 use Rattle.adversary_script.specs.ScriptPart.{IsTolerated}
@@ -100,7 +100,7 @@ module _ {Kept : Type 0} (machine : Machine) (script : Script) (layer : Layer Ke
       ∙ ap (λ (s : Scene Kept). map (cut machine.depth) s.states)
       (place_is script at j (t - first) (record { states = []; kept = [] }) inside ∙ ap at back)
 
-  pub borne_in : IsBorne machine faulty
+  pub borne_in : IsToleratedBy machine faulty
   borne_in =
       let few = of_each_era (IsTolerated machine.nodes machine.faults) script j among
       is.read.right.borne in

@@ -4,7 +4,7 @@ use Rattle.std.proofs.lemmas.List.Elements.{All-weaker}
 use Rattle.sync_types.specs.States.{State}
 use Rattle.counter_core.specs.Overlays.{Layer}
 use Rattle.machines.specs.Machines.{Machine, IsState, IsConfiguration, IsTold, IsTable, Run}
-use Rattle.machines.specs.Machines.{IsBorne}
+use Rattle.machines.specs.Machines.{IsToleratedBy}
 use Rattle.adversary_script.specs.Scripts.{Script, faulty_sets}
 use Rattle.adversary_script.specs.ScriptPart.{IsTolerated}
 use Rattle.layer_laws.specs.Counters as counters
@@ -45,7 +45,7 @@ module _ (machine : Machine) where
   }
 
   borne_of : (faulty : List ℕ) → Bears (machine_counter machine) faulty
-      → IsBorne machine faulty
+      → IsToleratedBy machine faulty
   borne_of faulty borne = record { rising = borne.rising; ids = borne.ids; few = borne.few }
 
 pub machines_settle : MachinesSettle

@@ -2,7 +2,7 @@
 use Rattle.std.proofs.Common.{◌≡◌, ℕ, List, length, map, sym, ap, ◌∙◌, subst}
 use Rattle.sync_types.specs.States.{State}
 use Rattle.counter_core.specs.Meanings.{cut}
-use Rattle.counter_core.specs.Working.{IsFor}
+use Rattle.counter_core.specs.Working.{IsWorkFor}
 use Rattle.machines.specs.Machines.{Machine}
 use Rattle.adversary_script.specs.Scripts.{Script}
 use Rattle.machine_runner.specs.Hearing.{HasRoom, AreHonest}
@@ -22,7 +22,7 @@ fronts_honest script t d config heard honest u lt correct =
 pub laid_behind : (machine : Machine) (script : Script) (t : ℕ) (config : List State)
     (old new : LayerBuffers) → IsLaid machine script t config old
     → new.below.noise ≡ old.below.noise → new.below.heard.items ≡ old.below.heard.items
-    → IsFor script.nodes new.below.work → length new.below.out.registers ≡ script.shape.depth
+    → IsWorkFor script.nodes new.below.work → length new.below.out.registers ≡ script.shape.depth
     → new.fronts.items ≡ old.fronts.items → length new.front.registers ≡ machine.depth
     → IsLaid machine script t config new
 laid_behind machine script t config old new laid noise heard work out fronts front = record {

@@ -12,7 +12,8 @@ use Rattle.layer_runner.specs.Rooms.{IsReady}
 use Rattle.layer_runner.specs.declared.stepping.LayerBuffers.{LayerBuffers}
 
 -- Its room was made for the machine and the script, and the fronts of its configuration are laid.
-pub record IsKept {Kept : Type 0} (machine : Machine) (layer : Layer Kept) (script : Script)
+pub record IsValidLayerRunner {Kept : Type 0} (machine : Machine) (layer : Layer Kept)
+    (script : Script)
     (room : LayerBuffers) (states : Pack) (locks : List (Option ℕ)) (at era : ℕ) : Type 0 where
   pub sound : IsSound machine
   pub read : IsReadWithLayer machine layer script

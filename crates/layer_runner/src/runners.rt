@@ -51,7 +51,7 @@ impl<'a, M: Machine, O: Overlay> Drop for LayerRunner<'a, M, O> {
 }
 
 impl<'a, M: Machine, O: Overlay> Model for LayerRunner<'a, M, O> {
-    ghost use Rattle.layer_runner.specs.Kept.{IsKept};
+    ghost use Rattle.layer_runner.specs.Kept.{IsValidLayerRunner};
     ghost use Rattle.layer_runner.specs.Runners.{Running};
 
     ghost Value = { Running M O };
@@ -65,7 +65,8 @@ impl<'a, M: Machine, O: Overlay> Model for LayerRunner<'a, M, O> {
       locks = r.locks.items;
     } };
 
-    ghost invariant = { λ r. IsKept (M.machine r.machine.now) (O.layer r.overlay) r.script r.room
+    ghost invariant = { λ r. IsValidLayerRunner (M.machine r.machine.now)
+        (O.layer r.overlay) r.script r.room
         r.states r.locks.items r.at r.era };
 }
 

@@ -5,7 +5,7 @@ ghost use Rattle.state_codec.specs.Shapes.{fields_at};
 ghost use Rattle.state_codec.specs.Ranges.{InRange};
 ghost use Rattle.counter_core.specs.Meanings.{cut, written};
 ghost use Rattle.counter_core.specs.Overlays.{CanStep, after, layered};
-ghost use Rattle.counter_core.specs.Working.{IsFor, IsAsRoomy};
+ghost use Rattle.counter_core.specs.Working.{IsWorkFor, IsAsRoomy};
 ghost use Rattle.machines.specs.Machines.{IsConfiguration};
 ghost use Rattle.adversary_script.specs.Rounds.{heard_at};
 ghost use Rattle.machine_runner.specs.Rooms as plain;
@@ -77,7 +77,7 @@ fn hear<M: Machine>(turn: &NodeStep<'_>, machine: &M, room: &mut LayerBuffers)
 fn step_machine<M: Machine>(machine: &M, v: u32, room: &mut LayerBuffers) -> u64
     requires node { v < (M.machine machine.now).nodes }
     requires fronts { IsConfiguration (M.machine machine.now) room.old.fronts.items }
-    requires work { IsFor (M.machine machine.now).nodes room.old.below.work }
+    requires work { IsWorkFor (M.machine machine.now).nodes room.old.below.work }
     requires front { length room.old.front.registers ≡ (M.machine machine.now).depth }
     ensures output { result
         ≡ (M.machine machine.now).shows v (state_of room.old.fronts.items v) }
@@ -100,7 +100,7 @@ fn step_layer<O: Overlay>(overlay: &mut O, v: u32, output: u64, room: &mut Layer
     requires step { 0 < (O.layer overlay.old).extra → CanStep (O.layer overlay.old) v output
         room.old.below.heard.items room.old.below.out }
     requires work { 0 < (O.layer overlay.old).extra
-        → IsFor (O.layer overlay.old).nodes room.old.below.work }
+        → IsWorkFor (O.layer overlay.old).nodes room.old.below.work }
     ensures layer { O.layer overlay.new ≡ O.layer overlay.old }
     ensures kept { O.kept overlay.new ≡ slice_set (O.kept overlay.old) v
         (after (O.layer overlay.old) (O.kept overlay.old) v output

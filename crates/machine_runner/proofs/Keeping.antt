@@ -6,7 +6,7 @@ use Rattle.sync_types.specs.FaultSets.{FaultIds}
 use Rattle.sync_types.specs.States.{State}
 use Rattle.construction.specs.Steps.{state_of}
 use Rattle.counter_core.specs.declared.work.Work.{Work}
-use Rattle.counter_core.specs.Working.{IsFor, IsAsRoomy}
+use Rattle.counter_core.specs.Working.{IsWorkFor, IsAsRoomy}
 use Rattle.state_codec.specs.Shapes.{Shape, fields_at}
 use Rattle.state_codec.specs.Ranges.{InRange}
 use Rattle.machines.specs.Machines.{Machine, IsState}
@@ -22,7 +22,7 @@ use Rattle.machine_runner.proofs.ReadFor.{state_is}
 use Rattle.machine_runner.specs.Kept.{locks_at}
 
 -- a workspace that is as roomy is for as many nodes
-pub as_roomy : (n : ℕ) (old new : Work) → IsAsRoomy old new → IsFor n old → IsFor n new
+pub as_roomy : (n : ℕ) (old new : Work) → IsAsRoomy old new → IsWorkFor n old → IsWorkFor n new
 as_roomy n old new same is = record {
   outputs = omega (arith, same.outputs, is.outputs);
   values = omega (arith, same.values, is.values);

@@ -22,4 +22,3 @@ pub mod Plays
 pub mod ReadFor
 pub mod Rekeyed
 pub mod Told
-pub mod WordsSoFar

@@ -3,7 +3,7 @@ use Rattle.std.proofs.Common.{ℕ, ◌<◌, ◌≤◌, All, length, refl, sym, �
 use Rattle.sync_types.specs.States.{State}
 use Rattle.state_codec.specs.Shapes.{Fields, fields_at}
 use Rattle.state_codec.specs.Ranges.{InRange}
-use Rattle.machines.specs.Machines.{Machine, IsState, IsBorne}
+use Rattle.machines.specs.Machines.{Machine, IsState, IsToleratedBy}
 use Rattle.adversary_script.specs.Scripts.{Script, faulty_sets}
 use Rattle.adversary_script.specs.Eras.{faulty_of_era}
 use Rattle.adversary_script.specs.ScriptPart.{IsTolerated}
@@ -36,7 +36,7 @@ module _ (machine : Machine) (s : Script) (is : IsReadFor machine s) where
       (sym (is.shape.fields v (let n = is.right.nodes in omega (arith, lt, n)))) state
 
   -- the faulty nodes of each era are what the machine tolerates
-  pub borne_in : (j : ℕ) → j ≤ length s.eras → IsBorne machine (faulty_of_era s j)
+  pub borne_in : (j : ℕ) → j ≤ length s.eras → IsToleratedBy machine (faulty_of_era s j)
   borne_in j le =
       let few = of_each_era (IsTolerated machine.nodes machine.faults) s j le is.right.borne in
       record { rising = few.rising; ids = few.ids; few = few.few }

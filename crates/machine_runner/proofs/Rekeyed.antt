@@ -8,7 +8,7 @@ use Rattle.machine_runner.specs.Laws.{IsReadFor}
 use Rattle.machine_runner.specs.Played.{starts}
 use Rattle.machine_runner.proofs.Firsts.{begun_era}
 use Rattle.machine_runner.specs.declared.stepping.RoundBuffers.{RoundBuffers}
-use Rattle.machine_runner.specs.Kept.{IsKept, locks_at}
+use Rattle.machine_runner.specs.Kept.{IsValidRunner, locks_at}
 use Rattle.machine_runner.specs.Rooms.{IsReady}
 use Rattle.machine_runner.specs.Runners.{Running, begun}
 use Rattle.machine_runner.proofs.Keeping.{locks_long}
@@ -62,11 +62,12 @@ module _ (script : Script) (key : List ℕ) where
   -- what a runner keeps, when it begins anew
   kept_at_first : (machine : Machine) (room : RoundBuffers) (noise : List ℕ) (out : State)
       (states now : Pack) (locks begun : List (Option ℕ)) (at era : ℕ)
-      → IsKept machine script room states locks at era → noise ≡ key
+      → IsValidRunner machine script room states locks at era → noise ≡ key
       → length out.registers ≡ script.shape.depth → now.shape ≡ states.shape
       → length now.current ≡ script.nodes → now.current ≡ starts (rekeyed script key)
       → begun ≡ locks_at machine (rekeyed script key) 0
-      → IsKept machine (rekeyed script key) (record room { noise = noise; out = out }) now begun 0 0
+      → IsValidRunner machine (rekeyed script key)
+      (record room { noise = noise; out = out }) now begun 0 0
   kept_at_first machine room noise out states now locks begun at era kept is deep shape size start
       known = record {
         sound = kept.sound;
@@ -86,15 +87,16 @@ module _ (script : Script) (key : List ℕ) where
   pub kept_anew : (machine : Machine) (room : RoundBuffers) (noise : List ℕ) (out : State)
       (states now : Pack) (locks begun : List (Option ℕ)) (at era : ℕ)
       (other : Script) → other ≡ rekeyed script key
-      → IsKept machine script room states locks at era → noise ≡ key
+      → IsValidRunner machine script room states locks at era → noise ≡ key
       → length out.registers ≡ script.shape.depth → now.shape ≡ states.shape
       → length now.current ≡ script.nodes → now.current ≡ starts other
       → begun ≡ locks_at machine other 0
-      → IsKept machine other (record room { noise = noise; out = out }) now begun 0 0
+      → IsValidRunner machine other (record room { noise = noise; out = out }) now begun 0 0
   kept_anew machine room noise out states now locks begun at era other same kept is deep shape size
       start known =
       subst
-      (λ (s : Script). IsKept machine s (record room { noise = noise; out = out }) now begun 0 0)
+      (λ (s : Script). IsValidRunner machine s
+      (record room { noise = noise; out = out }) now begun 0 0)
       (sym same)
       (kept_at_first machine room noise out states now locks begun at era kept is deep shape size
       (start ∙ ap starts same) (known ∙ ap (λ (s : Script). locks_at machine s 0) same))

@@ -17,7 +17,7 @@ use Rattle.machine_runner.specs.Rooms.{IsReady}
 abbrev pub locks_at : Machine → Script → (at : ℕ) → List (Option ℕ)
 locks_at machine script at = known_locks (is_locked machine) script (played_at machine script) at
 
-pub record IsKept (machine : Machine) (script : Script) (room : RoundBuffers) (states : Pack)
+pub record IsValidRunner (machine : Machine) (script : Script) (room : RoundBuffers) (states : Pack)
     (locks : List (Option ℕ)) (at era : ℕ) : Type 0 where
   pub sound : IsSound machine
   pub read : IsReadFor machine script

@@ -1,7 +1,7 @@
 -- What rounds of a script need: two configurations, and room beside them.
 use Rattle.std.specs.Prelude.{◌≡◌, length}
 use Rattle.state_codec.specs.Packs.{Pack}
-use Rattle.counter_core.specs.Working.{IsFor}
+use Rattle.counter_core.specs.Working.{IsWorkFor}
 use Rattle.adversary_script.specs.Scripts.{Script}
 use Rattle.machine_runner.specs.declared.stepping.RoundBuffers.{RoundBuffers}
 use Rattle.machine_runner.specs.Hearing.{HasRoom}
@@ -15,5 +15,5 @@ pub record IsConfiguration (script : Script) (states : Pack) : Type 0 where
 pub record IsReady (script : Script) (room : RoundBuffers) : Type 0 where
   pub noise : room.noise ≡ script.key
   pub heard : HasRoom script room.heard.items
-  pub work : IsFor script.nodes room.work
+  pub work : IsWorkFor script.nodes room.work
   pub out : length room.out.registers ≡ script.shape.depth

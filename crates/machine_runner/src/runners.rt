@@ -47,7 +47,7 @@ impl<'a, M: Machine> Drop for Runner<'a, M> {
 
 impl<'a, M: Machine> Model for Runner<'a, M> {
     ghost use Rattle.machine_runner.specs.Runners.{Running};
-    ghost use Rattle.machine_runner.specs.Kept.{IsKept};
+    ghost use Rattle.machine_runner.specs.Kept.{IsValidRunner};
 
     ghost Value = { Running M };
 
@@ -58,7 +58,7 @@ impl<'a, M: Machine> Model for Runner<'a, M> {
     } };
 
     ghost invariant = { λ r.
-        IsKept (M.machine r.machine.now) r.script r.room r.states r.locks.items r.at r.era };
+        IsValidRunner (M.machine r.machine.now) r.script r.room r.states r.locks.items r.at r.era };
 }
 
 /// What rounds need beside two configurations, whose states have that shape.

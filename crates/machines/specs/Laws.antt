@@ -6,7 +6,8 @@ use Rattle.sync_types.specs.States.{State}
 use Rattle.construction.specs.Runs.{configuration}
 use Rattle.counter_core.specs.Meanings.{cut}
 use Rattle.state_codec.specs.Shapes.{IsFields}
-use Rattle.machines.specs.Machines.{Machine, IsState, Run, CountsFrom, IsBorne, Settles, IsLocked}
+use Rattle.machines.specs.Machines.{Machine, IsState, Run, CountsFrom, IsToleratedBy, Settles}
+use Rattle.machines.specs.Machines.{IsLocked}
 
 module _ (machine : Machine) where
   -- registers after the machine's own, as a layer above it has them, change neither what a state
@@ -22,7 +23,7 @@ module _ (machine : Machine) where
   -- is locked.
   abbrev pub LocksAtBound : Type 0
   LocksAtBound =
-      (faulty : List ℕ) (run : List (List State)) → IsBorne machine faulty
+      (faulty : List ℕ) (run : List (List State)) → IsToleratedBy machine faulty
       → Run machine faulty run → machine.bound < length run
       → IsLocked machine faulty (configuration run machine.bound)
 
@@ -35,7 +36,7 @@ module _ (machine : Machine) where
   -- From any locked configuration on, before the bound too, whatever lies follow.
   abbrev pub LockedRunsCount : Type 0
   LockedRunsCount =
-      (faulty : List ℕ) (run : List (List State)) → IsBorne machine faulty
+      (faulty : List ℕ) (run : List (List State)) → IsToleratedBy machine faulty
       → Run machine faulty run → (from : ℕ) → from < length run
       → IsLocked machine faulty (configuration run from) → StaysLockedFrom faulty run from
 

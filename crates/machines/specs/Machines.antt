@@ -88,7 +88,7 @@ module _ (machine : Machine) where
         → output (t + 1) ≡ (output t + 1) % machine.modulus
 
   -- a faulty set that the counter tolerates: rising ids of nodes, at most F
-  pub record IsBorne (faulty : List ℕ) : Type 0 where
+  pub record IsToleratedBy (faulty : List ℕ) : Type 0 where
     pub rising : IsStrictlyIncreasing faulty
     pub ids : All (λ id. id < machine.nodes) faulty
     pub few : length faulty ≤ machine.faults
@@ -97,5 +97,5 @@ module _ (machine : Machine) where
   -- bound on.
   abbrev pub Settles : Type 0
   Settles =
-      (faulty : List ℕ) (run : List (List State)) → IsBorne faulty → Run faulty run
+      (faulty : List ℕ) (run : List (List State)) → IsToleratedBy faulty → Run faulty run
       → CountsFrom faulty run machine.bound

@@ -2,7 +2,7 @@ ghost use Rattle.std.specs.Prelude.{◌≡◌, ◌+◌, ◌<◌, ◌≤◌, leng
 ghost use Rattle.state_codec.specs.Shapes.{bytes_in};
 ghost use Rattle.state_codec.specs.Reading.{read};
 ghost use Rattle.state_codec.specs.Writing.{written};
-ghost use Rattle.counter_core.specs.Working.{IsFor, IsAsRoomy};
+ghost use Rattle.counter_core.specs.Working.{IsWorkFor, IsAsRoomy};
 ghost use Rattle.machines.specs.Machines.{Machine, IsState, IsConfiguration};
 ghost use Rattle.machines.specs.Laws.{IsSound};
 
@@ -83,7 +83,7 @@ pub trait Machine: Drop {
     fn advance(&self, v: u32, heard: &Heard<'_>, work: &mut Work, out: &mut NodeState)
         requires node { v < (machine self.now).nodes }
         requires heard { IsConfiguration (machine self.now) heard.now }
-        requires work { IsFor (machine self.now).nodes work.old }
+        requires work { IsWorkFor (machine self.now).nodes work.old }
         requires out { length out.old.registers ≡ (machine self.now).depth }
         ensures out { out.new ≡ (machine self.now).step v heard.now }
         ensures work { IsAsRoomy work.old work.new };

@@ -9,13 +9,13 @@ use Rattle.counting.proofs.Least.{least_from, no_least}
 use Rattle.counting.specs.Unfinished.{IsBelow, MajorityStays, LeastStays}
 use Rattle.counting.proofs.Unfinished.{majority_stays, no_majority_stays, least_stays}
 use Rattle.majority_votes.specs.declared.counts.Count.{Count}
-use Rattle.majority_votes.specs.Counts.{count_at, value_at, IsKept}
+use Rattle.majority_votes.specs.Counts.{count_at, value_at, IsValidTally}
 use Rattle.majority_votes.proofs.Lookups.{counted_or_none, places_of_value}
 use Rattle.majority_votes.proofs.Edits.{counts_within_total}
 
 module _ (capacity : ℕ) (values : List (Option ℕ)) (counts : List Count)
     (infinities values_capacity counts_capacity : ℕ)
-    (kept : IsKept capacity values counts infinities values_capacity counts_capacity) where
+    (kept : IsValidTally capacity values counts infinities values_capacity counts_capacity) where
   -- each count has the places of its number
   pub places_at : (i : ℕ) → i < length counts
       → count_of values (Some (value_at counts i)) ≡ (count_at counts i).places

@@ -59,13 +59,13 @@ impl Drop for Tally {
 impl Model for Tally {
     ghost use Rattle.std.specs.Prelude.{vec_capacity};
     ghost use Rattle.majority_votes.specs.Votes.{Votes};
-    ghost use Rattle.majority_votes.specs.Counts.{IsKept};
+    ghost use Rattle.majority_votes.specs.Counts.{IsValidTally};
 
     ghost Value = { Votes };
 
     ghost view = { λ t. record { values = t.values.items; capacity = t.capacity } };
 
-    ghost invariant = { λ t. IsKept t.capacity t.values.items t.counts.items t.infinities
+    ghost invariant = { λ t. IsValidTally t.capacity t.values.items t.counts.items t.infinities
         (vec_capacity t.values) (vec_capacity t.counts) };
 }
 

@@ -10,7 +10,7 @@ use Rattle.state_codec.specs.Shapes.{Fields, bytes_in}
 use Rattle.state_codec.specs.Reading.{read}
 use Rattle.state_codec.specs.Writing.{written}
 use Rattle.node_stepper.specs.Packets.{Ending, whole, cut, beyond, Packets}
-use Rattle.machines.specs.Machines.{Machine, IsBorne}
+use Rattle.machines.specs.Machines.{Machine, IsToleratedBy}
 use Rattle.node_calls.specs.declared.any_machines.AnyMachine.{AnyMachine}
 use Rattle.node_calls.specs.Machines.{machine_of}
 use Rattle.node_stepper.specs.Nodes.{state_after}
@@ -170,7 +170,7 @@ module _ (text : List ℕ) (counter : AnyMachine) (is : counter_answer text ≡ 
 -- ---- the laws
 
 module _ (text : List ℕ) (counter : AnyMachine) (is : counter_answer text ≡ Ok counter)
-    (faulty : List ℕ) (borne : IsBorne (machine_of counter) faulty) (count : ℕ)
+    (faulty : List ℕ) (borne : IsToleratedBy (machine_of counter) faulty) (count : ℕ)
     (bytes packets : ℕ → ℕ → List ℕ)
     (rounds : InRounds text (machine_of counter) faulty count bytes packets) where
   stepping : Stepping text (machine_of counter) faulty count bytes packets

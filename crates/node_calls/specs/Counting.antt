@@ -3,7 +3,7 @@ use Rattle.std.specs.Prelude.{◌≡◌, ◌≢◌, ℕ, ◌+◌, ◌%◌, ◌<�
 use Rattle.std.specs.Prelude.{false}
 use Rattle.construction.specs.Runs.{is_in}
 use Rattle.state_codec.specs.Shapes.{bytes_in}
-use Rattle.machines.specs.Machines.{Machine, IsBorne, IsLocked}
+use Rattle.machines.specs.Machines.{Machine, IsToleratedBy, IsLocked}
 use Rattle.node_calls.specs.declared.any_machines.AnyMachine.{AnyMachine}
 use Rattle.node_calls.specs.Machines.{machine_of}
 use Rattle.node_stepper.specs.NodeRuns.{IsCorrect}
@@ -54,7 +54,7 @@ module _ (text : List ℕ) (m : Machine) (faulty : List ℕ) (count : ℕ) (byte
 -- each of them, however many calls each has made before: so it is too if some were started anew.
 abbrev pub NodesCount : Type 0
 NodesCount = (text : List ℕ) (counter : AnyMachine) → counter_answer text ≡ Ok counter
-    → (faulty : List ℕ) → IsBorne (machine_of counter) faulty
+    → (faulty : List ℕ) → IsToleratedBy (machine_of counter) faulty
     → (count : ℕ) (bytes packets : ℕ → ℕ → List ℕ)
     → InRounds text (machine_of counter) faulty count bytes packets
     → CountByBytes text (machine_of counter) faulty count bytes
@@ -77,7 +77,7 @@ pub record InLossyRounds (text : List ℕ) (m : Machine) (faulty : List ℕ) (co
 -- each round the states of N - F correct nodes, its own among them, whichever these are.
 abbrev pub LossyNodesCount : Type 0
 LossyNodesCount = (text : List ℕ) (counter : AnyMachine) → counter_answer text ≡ Ok counter
-    → (faulty : List ℕ) → IsBorne (machine_of counter) faulty
+    → (faulty : List ℕ) → IsToleratedBy (machine_of counter) faulty
     → (count : ℕ) (bytes packets : ℕ → ℕ → List ℕ)
     → InLossyRounds text (machine_of counter) faulty count bytes packets
     → (from : ℕ) → from ≤ count → IsLocked (machine_of counter) faulty

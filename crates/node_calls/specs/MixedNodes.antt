@@ -4,7 +4,7 @@ use Rattle.std.specs.Prelude.{false, unwrap_or, Ok}
 use Rattle.sync_types.specs.States.{State}
 use Rattle.construction.specs.Runs.{is_in}
 use Rattle.state_codec.specs.Shapes.{bytes_in}
-use Rattle.machines.specs.Machines.{Machine, IsState, IsBorne, IsLocked}
+use Rattle.machines.specs.Machines.{Machine, IsState, IsToleratedBy, IsLocked}
 use Rattle.machines.specs.Laws.{IsSound}
 use Rattle.node_stepper.specs.Nodes.{node_text}
 use Rattle.node_calls.specs.declared.any_machines.AnyMachine.{AnyMachine}
@@ -88,13 +88,13 @@ module _ (m : Machine) (faulty : List ℕ) (members : ℕ → Member) (rounds : 
 
 -- Processes and callers of a sound machine count as one network, whichever nodes are which.
 abbrev pub MixedNodesCount : Type 0
-MixedNodesCount = (m : Machine) → IsSound m → (faulty : List ℕ) → IsBorne m faulty
+MixedNodesCount = (m : Machine) → IsSound m → (faulty : List ℕ) → IsToleratedBy m faulty
     → (members : ℕ → Member) (rounds : ℕ) → MembersConnect m faulty members rounds
     → MembersCount m faulty members rounds
 
 -- From any locked round on they stay locked and count even if states are lost.
 abbrev pub MixedNodesStayLocked : Type 0
-MixedNodesStayLocked = (m : Machine) → IsSound m → (faulty : List ℕ) → IsBorne m faulty
+MixedNodesStayLocked = (m : Machine) → IsSound m → (faulty : List ℕ) → IsToleratedBy m faulty
     → (members : ℕ → Member) (rounds : ℕ) → MembersAreHeard m faulty members rounds
     → (from : ℕ) → from ≤ rounds → IsLocked m faulty (states_said m (all_say m members) from)
     → StayLockedThrough m faulty (states_said m (all_say m members)) from rounds

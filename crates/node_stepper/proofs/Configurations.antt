@@ -10,10 +10,10 @@ use Rattle.state_codec.specs.Ranges.{InRange}
 use Rattle.state_codec.specs.Reading.{read}
 use Rattle.state_codec.proofs.Ranged.{zero_in_range, read_is_in_range}
 use Rattle.counter_core.specs.declared.work.Work.{Work}
-use Rattle.counter_core.specs.Working.{IsFor, IsAsRoomy}
+use Rattle.counter_core.specs.Working.{IsWorkFor, IsAsRoomy}
 use Rattle.machines.specs.Machines.{Machine, IsState, IsConfiguration}
 use Rattle.machines.specs.Laws.{IsSound}
-use Rattle.node_stepper.specs.Kept.{IsKept}
+use Rattle.node_stepper.specs.Kept.{IsValidEngine}
 
 -- a place within a list needs no default
 within : (states : List State) (v : ℕ) (d e : State) → v < length states
@@ -64,7 +64,7 @@ module _ (m : Machine) (sound : IsSound m) where
 -- ---- what an engine keeps
 
 module _ (m : Machine) (id : ℕ) (states : List State) (since : List Bool) (next : State)
-    (work : Work) (kept : IsKept m id states since next work) where
+    (work : Work) (kept : IsValidEngine m id states since next work) where
   -- a state that is read at a place
   pub place_of : (v : ℕ) → v < m.nodes → (s : State) → s ≡ get_or states v s
       → s ≡ state_of states v
@@ -82,7 +82,8 @@ module _ (m : Machine) (id : ℕ) (states : List State) (since : List Bool) (nex
 
   -- it hears a node
   pub kept_hearing : (v : ℕ) → v < m.nodes → (s : State) (bytes : List ℕ)
-      → s ≡ read (m.fields v) bytes → IsKept m id (set states v s) (set since v true) next work
+      → s ≡ read (m.fields v) bytes → IsValidEngine m id (set states v s)
+      (set since v true) next work
   kept_hearing v lt s bytes is = record {
     sound = kept.sound;
     node = kept.node;
@@ -106,7 +107,7 @@ module _ (m : Machine) (id : ℕ) (states : List State) (since : List Bool) (nex
 
       pub stepping : (self : State) → self ≡ out → (marks : List Bool) → length marks ≡ m.nodes
           → (roomy : Work) → IsAsRoomy work roomy
-          → IsKept m id (set states id self) marks out roomy
+          → IsValidEngine m id (set states id self) marks out roomy
       stepping self self_is marks size roomy same_room =
           let ready = kept.ready in record {
             sound = kept.sound;
@@ -127,8 +128,8 @@ pub begun_kept : (m : Machine) (id nodes depth : ℕ) (state own : State) (state
     (since : List Bool) (next : State) (work : Work)
     → IsSound m → id < m.nodes → IsState m id state → nodes ≡ m.nodes → depth ≡ m.depth
     → states ≡ replicate nodes (zero_state depth) → own ≡ state → length since ≡ nodes
-    → next ≡ zero_state depth → IsFor nodes work
-    → IsKept m id (set states id own) since next work
+    → next ≡ zero_state depth → IsWorkFor nodes work
+    → IsValidEngine m id (set states id own) since next work
 begun_kept m id nodes depth state own states since next work sound node is count registers zeros
     own_is marks next_is ready =
     let all : states ≡ replicate m.nodes (zero_state m.depth) =
@@ -142,7 +143,7 @@ begun_kept m id nodes depth state own states since next work sound node is count
       marks = marks ∙ count;
       room = ap (λ (s : State). length s.registers) next_is ∙ length-replicate depth zero_register
           ∙ registers;
-      ready = subst (λ n. IsFor n work) count ready;
+      ready = subst (λ n. IsWorkFor n work) count ready;
     }
 
 -- a state that a node begins with has the room of a zero state

@@ -11,7 +11,7 @@ use Rattle.counter_core.proofs.ListsAndPlaces.{places_of_ids}
 use Rattle.sync_types.specs.States.{State, zero_state, register_at}
 use Rattle.construction.specs.Steps.{state_of}
 use Rattle.construction.specs.Runs.{is_in, configuration}
-use Rattle.machines.specs.Machines.{Machine, IsConfiguration, IsBorne, IsLocked, LockedBy}
+use Rattle.machines.specs.Machines.{Machine, IsConfiguration, IsToleratedBy, IsLocked, LockedBy}
 use Rattle.machines.specs.Laws.{IsSound, StaysLockedFrom}
 use Rattle.node_stepper.specs.NodeRuns.{IsCorrect}
 use Rattle.node_stepper.specs.Losses.{HearsOthers, LossyStep, LossyRun, LossesKeepLocked}
@@ -81,7 +81,7 @@ Other n v missed =
     ((u : ℕ) × (u < n) × ((u == v) ≡ false) × (is_in missed u ≡ false)) ⊎ (length missed ≡ 0)
 
 module _ (m : Machine) (sound : IsSound m) where
-  other : (v : ℕ) (missed : List ℕ) → IsBorne m missed → Other m.nodes v missed
+  other : (v : ℕ) (missed : List ℕ) → IsToleratedBy m missed → Other m.nodes v missed
   other v missed few =
       let quorum = sound.quorum in
       let size = few.few in
@@ -101,7 +101,7 @@ module _ (m : Machine) (sound : IsSound m) where
       (λ u lt. hears.truth u lt (none_in missed none u))
       ∙ sym (fill_by_all (state_of old) old m.nodes (zero_state 0) size (λ u lt. refl))
 
-  module _ (faulty : List ℕ) (borne : IsBorne m faulty) (old : List State)
+  module _ (faulty : List ℕ) (borne : IsToleratedBy m faulty) (old : List State)
       (is : IsConfiguration m old) (locked : IsLocked m faulty old) where
     -- a correct node
     abbrev one : ℕ
@@ -207,7 +207,7 @@ module _ (m : Machine) (sound : IsSound m) where
 
 -- ---- rounds
 
-module _ (m : Machine) (sound : IsSound m) (faulty : List ℕ) (borne : IsBorne m faulty)
+module _ (m : Machine) (sound : IsSound m) (faulty : List ℕ) (borne : IsToleratedBy m faulty)
     (run : List (List State)) (r : LossyRun m faulty run) (from : ℕ) where
   abbrev at : (t : ℕ) → List State
   at t = configuration run t

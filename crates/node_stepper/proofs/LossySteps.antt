@@ -13,7 +13,7 @@ use Rattle.sync_types.specs.States.{State, zero_state}
 use Rattle.construction.specs.Steps.{state_of}
 use Rattle.construction.specs.Runs.{is_in, configuration, heard_by, heard_of}
 use Rattle.machines.specs.Machines.{Machine, IsState, IsConfiguration, IsTold, IsTable, IsNext}
-use Rattle.machines.specs.Machines.{Run, IsBorne, IsLocked}
+use Rattle.machines.specs.Machines.{Run, IsToleratedBy, IsLocked}
 use Rattle.machines.specs.Laws.{IsSound, StaysLockedFrom}
 use Rattle.node_stepper.specs.Losses.{HearsOthers}
 use Rattle.node_stepper.proofs.Windows.{each, placed}
@@ -155,7 +155,7 @@ module _ (m : Machine) (sound : IsSound m) (old : List State) (is : IsConfigurat
     rounds = round_at;
   }
 
-  module _ (few : IsBorne m missed) (locked : IsLocked m missed old) where
+  module _ (few : IsToleratedBy m missed) (locked : IsLocked m missed old) where
     kept : StaysLockedFrom m missed pair 0
     kept = sound.stays missed pair few is_run 0 (omega arith) locked
 

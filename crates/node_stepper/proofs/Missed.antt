@@ -15,7 +15,7 @@ use Rattle.std.proofs.lemmas.Map.Made.{is_member-filter, length-le_from_is_membe
 use Rattle.std.proofs.lemmas.Map.Made.{IsDistinct-from_AllPairs}
 use Rattle.construction.specs.Runs.{is_in}
 use Rattle.counter_core.proofs.Heeded.{place_of}
-use Rattle.machines.specs.Machines.{Machine, IsBorne}
+use Rattle.machines.specs.Machines.{Machine, IsToleratedBy}
 use Rattle.node_stepper.specs.NodeRuns.{IsCorrect}
 use Rattle.node_stepper.specs.Losses.{AreMissed}
 use Rattle.node_stepper.specs.Missed.{HearsEnough, others_of, OthersAreMissed}
@@ -63,7 +63,7 @@ kept_is : (p : ℕ → Bool) (n u : ℕ) → is_in (filter p (range_with_len 0 n
 kept_is p n u =
     is_member-filter nat_eq_equiv p u (λ x same. ap p (eqb-true u x same)) (range_with_len 0 n)
 
-module _ (m : Machine) (faulty heard : List ℕ) (v : ℕ) (borne : IsBorne m faulty)
+module _ (m : Machine) (faulty heard : List ℕ) (v : ℕ) (borne : IsToleratedBy m faulty)
     (hears : HearsEnough m faulty heard v) where
   abbrev all : List ℕ
   all = range_with_len 0 m.nodes

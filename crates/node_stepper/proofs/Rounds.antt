@@ -8,7 +8,7 @@ use Rattle.sync_types.specs.States.{State, zero_state}
 use Rattle.construction.specs.Steps.{state_of}
 use Rattle.construction.specs.Runs.{is_in}
 use Rattle.state_codec.specs.Reading.{read}
-use Rattle.machines.specs.Machines.{Machine, IsState, IsBorne, IsLocked}
+use Rattle.machines.specs.Machines.{Machine, IsState, IsToleratedBy, IsLocked}
 use Rattle.machines.specs.Laws.{IsSound}
 use Rattle.node_stepper.specs.Nodes.{state_after, state_behind, node_text}
 use Rattle.node_stepper.proofs.NodeTexts.{state_push}
@@ -153,7 +153,7 @@ module _ (m : Machine) (sound : IsSound m) (faulty : List ℕ) (rounds : ℕ)
 
 -- ---- the laws
 
-module _ (m : Machine) (sound : IsSound m) (faulty : List ℕ) (borne : IsBorne m faulty)
+module _ (m : Machine) (sound : IsSound m) (faulty : List ℕ) (borne : IsToleratedBy m faulty)
     (rounds : ℕ) (said : (i v : ℕ) → List ℕ) (given : (i v u : ℕ) → List ℕ) where
   module _ (are : AreInRounds m faulty rounds said given) where
     abbrev own : Nodes

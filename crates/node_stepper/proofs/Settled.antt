@@ -1,7 +1,7 @@
 -- What is a run comes to count, as every run does.
 use Rattle.std.proofs.Common.{ℕ, ◌≤◌, List, arith}
 use Rattle.sync_types.specs.States.{State}
-use Rattle.machines.specs.Machines.{Machine, IsBorne, IsLocked}
+use Rattle.machines.specs.Machines.{Machine, IsToleratedBy, IsLocked}
 use Rattle.machines.specs.Laws.{IsSound}
 use Rattle.node_stepper.specs.NodeRuns.{states_in}
 use Rattle.node_stepper.specs.RunLaws.{RunThrough, CountThrough, StayLockedThrough, NodesSettle}
@@ -10,7 +10,7 @@ use Rattle.node_stepper.proofs.Follows.{Follows, locked_in, locked_out, count, s
 use Rattle.node_stepper.proofs.Runs.{nodes_run}
 
 module _ (m : Machine) (sound : IsSound m) (faulty : List ℕ) (at : ℕ → List State) (rounds : ℕ)
-    (r : RunThrough m faulty at rounds) (borne : IsBorne m faulty) where
+    (r : RunThrough m faulty at rounds) (borne : IsToleratedBy m faulty) where
   abbrev follows : Follows m faulty at rounds r.run
   follows = record { long = r.long; states = r.states }
 

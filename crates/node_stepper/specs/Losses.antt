@@ -5,14 +5,14 @@ use Rattle.sync_types.specs.States.{State}
 use Rattle.construction.specs.Steps.{state_of}
 use Rattle.construction.specs.Runs.{is_in, configuration}
 use Rattle.state_codec.specs.Reading.{read}
-use Rattle.machines.specs.Machines.{Machine, IsState, IsConfiguration, IsBorne, IsLocked}
+use Rattle.machines.specs.Machines.{Machine, IsState, IsConfiguration, IsToleratedBy, IsLocked}
 use Rattle.machines.specs.Laws.{IsSound, StaysLockedFrom}
 use Rattle.node_stepper.specs.NodeRuns.{Nodes, cell_given, IsCorrect, state_in}
 
 -- The nodes whose states node v does not hear in a round: faulty ones, which may lie to it, and
 -- those whose states are lost to it. Together they are at most F, and v itself is not one of them.
 pub record AreMissed (m : Machine) (faulty : List ℕ) (v : ℕ) (missed : List ℕ) : Type 0 where
-  pub few : IsBorne m missed
+  pub few : IsToleratedBy m missed
   pub faulty_too : (u : ℕ) → is_in faulty u ≡ true → is_in missed u ≡ true
   pub not_own : is_in missed v ≡ false
 
@@ -40,7 +40,7 @@ module _ (m : Machine) (faulty : List ℕ) where
 -- From any locked configuration on, the correct nodes stay locked and count, as long as each of
 -- them hears, in each round, the true states of N - F correct nodes, itself among them.
 abbrev pub LossesKeepLocked : Type 0
-LossesKeepLocked = (m : Machine) → IsSound m → (faulty : List ℕ) → IsBorne m faulty
+LossesKeepLocked = (m : Machine) → IsSound m → (faulty : List ℕ) → IsToleratedBy m faulty
     → (run : List (List State)) → LossyRun m faulty run → (from : ℕ) → from < length run
     → IsLocked m faulty (configuration run from) → StaysLockedFrom m faulty run from
 

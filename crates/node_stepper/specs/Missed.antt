@@ -3,7 +3,7 @@ use Rattle.std.specs.Prelude.{◌≡◌, ℕ, ◌+◌, ◌≤◌, List, length, 
 use Rattle.std.specs.List.{range_with_len}
 use Rattle.std.specs.List.Sorted.{IsStrictlyIncreasing}
 use Rattle.construction.specs.Runs.{is_in}
-use Rattle.machines.specs.Machines.{Machine, IsBorne}
+use Rattle.machines.specs.Machines.{Machine, IsToleratedBy}
 use Rattle.node_stepper.specs.NodeRuns.{IsCorrect}
 use Rattle.node_stepper.specs.Losses.{AreMissed}
 
@@ -20,5 +20,5 @@ others_of m heard = filter (λ u. not (is_in heard u)) (range_with_len 0 m.nodes
 
 -- Whichever these are, it may miss all others.
 abbrev pub OthersAreMissed : Type 0
-OthersAreMissed = (m : Machine) (faulty heard : List ℕ) (v : ℕ) → IsBorne m faulty
+OthersAreMissed = (m : Machine) (faulty heard : List ℕ) (v : ℕ) → IsToleratedBy m faulty
     → HearsEnough m faulty heard v → AreMissed m faulty v (others_of m heard)

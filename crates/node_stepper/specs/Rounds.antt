@@ -6,7 +6,7 @@ use Rattle.std.specs.List.{range_with_len}
 use Rattle.sync_types.specs.States.{State}
 use Rattle.construction.specs.Runs.{is_in}
 use Rattle.state_codec.specs.Reading.{read}
-use Rattle.machines.specs.Machines.{Machine, IsBorne, IsLocked}
+use Rattle.machines.specs.Machines.{Machine, IsToleratedBy, IsLocked}
 use Rattle.machines.specs.Laws.{IsSound}
 use Rattle.node_stepper.specs.Nodes.{state_after}
 use Rattle.node_stepper.specs.NodeRuns.{IsCorrect}
@@ -59,13 +59,13 @@ pub record SayRun (m : Machine) (faulty : List ℕ) (rounds : ℕ) (said : (i v 
       → StayLockedThrough m faulty (states_said m said) from rounds
 
 abbrev pub NodesInRoundsRun : Type 0
-NodesInRoundsRun = (m : Machine) → IsSound m → (faulty : List ℕ) → IsBorne m faulty
+NodesInRoundsRun = (m : Machine) → IsSound m → (faulty : List ℕ) → IsToleratedBy m faulty
     → (rounds : ℕ) (said : (i v : ℕ) → List ℕ) (given : (i v u : ℕ) → List ℕ)
     → AreInRounds m faulty rounds said given → SayRun m faulty rounds said
 
 -- From any locked round on they stay locked and count when states are lost.
 abbrev pub NodesInRoundsStayLocked : Type 0
-NodesInRoundsStayLocked = (m : Machine) → IsSound m → (faulty : List ℕ) → IsBorne m faulty
+NodesInRoundsStayLocked = (m : Machine) → IsSound m → (faulty : List ℕ) → IsToleratedBy m faulty
     → (rounds : ℕ) (said : (i v : ℕ) → List ℕ) (given : (i v u : ℕ) → List ℕ)
     → AreInLossyRounds m faulty rounds said given → (from : ℕ) → from ≤ rounds
     → IsLocked m faulty (states_said m said from)

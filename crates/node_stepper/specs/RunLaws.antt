@@ -4,7 +4,7 @@ use Rattle.sync_types.specs.States.{State}
 use Rattle.construction.specs.Steps.{state_of}
 use Rattle.construction.specs.Runs.{is_in, configuration}
 use Rattle.state_codec.specs.Writing.{written}
-use Rattle.machines.specs.Machines.{Machine, IsState, Run, AllShow, IsBorne, IsLocked}
+use Rattle.machines.specs.Machines.{Machine, IsState, Run, AllShow, IsToleratedBy, IsLocked}
 use Rattle.machines.specs.Laws.{IsSound}
 use Rattle.node_stepper.specs.Laws.{AreFull}
 use Rattle.node_stepper.specs.NodeRuns.{Nodes, cell_given, IsCorrect, SomeIsCorrect, state_in}
@@ -59,7 +59,7 @@ AnyLiesConnect = (m : Machine) → IsSound m → (faulty : List ℕ) (starts : �
 
 -- Faulty nodes that a sound machine tolerates leave a correct one.
 abbrev pub BorneLeavesSome : Type 0
-BorneLeavesSome = (m : Machine) → IsSound m → (faulty : List ℕ) → IsBorne m faulty
+BorneLeavesSome = (m : Machine) → IsSound m → (faulty : List ℕ) → IsToleratedBy m faulty
     → SomeIsCorrect m faulty
 
 -- Connected nodes of a sound machine are a run of it.
@@ -70,19 +70,19 @@ NodesRun = (m : Machine) → IsSound m → (faulty : List ℕ) (nodes : Nodes) (
 
 -- As many rounds later as the bound says, they count.
 abbrev pub NodesSettle : Type 0
-NodesSettle = (m : Machine) → IsSound m → (faulty : List ℕ) → IsBorne m faulty
+NodesSettle = (m : Machine) → IsSound m → (faulty : List ℕ) → IsToleratedBy m faulty
     → (nodes : Nodes) (begins : ℕ → ℕ) (rounds : ℕ) → AreConnected m faulty nodes begins rounds
     → CountThrough m faulty (states_in m nodes begins) m.bound rounds
 
 -- There they are locked.
 abbrev pub NodesLock : Type 0
-NodesLock = (m : Machine) → IsSound m → (faulty : List ℕ) → IsBorne m faulty
+NodesLock = (m : Machine) → IsSound m → (faulty : List ℕ) → IsToleratedBy m faulty
     → (nodes : Nodes) (begins : ℕ → ℕ) (rounds : ℕ) → AreConnected m faulty nodes begins rounds
     → m.bound ≤ rounds → IsLocked m faulty (states_in m nodes begins m.bound)
 
 -- Once they are locked, they stay so, and count, whatever cells of faulty nodes follow.
 abbrev pub NodesStayLocked : Type 0
-NodesStayLocked = (m : Machine) → IsSound m → (faulty : List ℕ) → IsBorne m faulty
+NodesStayLocked = (m : Machine) → IsSound m → (faulty : List ℕ) → IsToleratedBy m faulty
     → (nodes : Nodes) (begins : ℕ → ℕ) (rounds : ℕ) → AreConnected m faulty nodes begins rounds
     → (from : ℕ) → from ≤ rounds → IsLocked m faulty (states_in m nodes begins from)
     → StayLockedThrough m faulty (states_in m nodes begins) from rounds
@@ -90,7 +90,7 @@ NodesStayLocked = (m : Machine) → IsSound m → (faulty : List ℕ) → IsBorn
 -- So they do when states are lost, as long as each correct node hears those of N - F correct nodes
 -- in each round, itself among them.
 abbrev pub HeardNodesStayLocked : Type 0
-HeardNodesStayLocked = (m : Machine) → IsSound m → (faulty : List ℕ) → IsBorne m faulty
+HeardNodesStayLocked = (m : Machine) → IsSound m → (faulty : List ℕ) → IsToleratedBy m faulty
     → (nodes : Nodes) (begins : ℕ → ℕ) (rounds : ℕ) → AreHeard m faulty nodes begins rounds
     → (from : ℕ) → from ≤ rounds → IsLocked m faulty (states_in m nodes begins from)
     → StayLockedThrough m faulty (states_in m nodes begins) from rounds

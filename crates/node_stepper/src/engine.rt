@@ -19,7 +19,7 @@ pub struct NodeEngine<M: Machine> {
 
 impl<M: Machine> Model for NodeEngine<M> {
     ghost use Rattle.node_stepper.specs.Nodes.{Standing};
-    ghost use Rattle.node_stepper.specs.Kept.{IsKept};
+    ghost use Rattle.node_stepper.specs.Kept.{IsValidEngine};
 
     ghost Value = { Standing M };
 
@@ -31,7 +31,7 @@ impl<M: Machine> Model for NodeEngine<M> {
     } };
 
     ghost invariant = { λ e.
-        IsKept (M.machine e.machine) e.id e.states.items e.since.items e.next e.work };
+        IsValidEngine (M.machine e.machine) e.id e.states.items e.since.items e.next e.work };
 }
 
 impl<M: Machine> NodeEngine<M> {

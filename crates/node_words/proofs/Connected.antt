@@ -1,7 +1,7 @@
 -- Calls of a node that are given one another's cells are connected nodes.
 use Rattle.std.proofs.Common.{ℕ, List, ◌∙◌}
 use Rattle.sync_types.specs.States.{State}
-use Rattle.machines.specs.Machines.{Machine, IsBorne}
+use Rattle.machines.specs.Machines.{Machine, IsToleratedBy}
 use Rattle.machines.specs.Laws.{IsSound}
 use Rattle.node_stepper.specs.NodeRuns.{Nodes, SomeIsCorrect, AreConnected}
 use Rattle.node_stepper.specs.RunLaws.{RunThrough}
@@ -17,7 +17,7 @@ use Rattle.node_words.proofs.CallStates.{some_written}
 
 module _ {Reader Plan Premise : Type 0} (words : Words Reader Plan Premise)
     {Accepted : Plan → Type 0} (law : HeadersAreOfMachines words Accepted) (m : Machine)
-    (faulty : List ℕ) (borne : IsBorne m faulty)
+    (faulty : List ℕ) (borne : IsToleratedBy m faulty)
     (some : SomeIsCorrect m faulty) (calls : ℕ → Call) (begins : ℕ → ℕ) (rounds : ℕ)
     (is : CallsConnect words m faulty calls begins rounds) where
   abbrev own : Nodes

@@ -6,7 +6,7 @@ use Rattle.std.proofs.lemmas.Bool.{eqb-true}
 use Rattle.sync_types.specs.States.{State}
 use Rattle.state_codec.specs.Reading.{read}
 use Rattle.state_codec.specs.Writing.{written}
-use Rattle.machines.specs.Machines.{Machine, IsState, IsBorne, IsLocked}
+use Rattle.machines.specs.Machines.{Machine, IsState, IsToleratedBy, IsLocked}
 use Rattle.machines.specs.Laws.{IsSound}
 use Rattle.node_stepper.specs.Bytes.{AreBytes, StatesFit, AllFit}
 use Rattle.node_stepper.specs.Cells.{cell_number}
@@ -166,7 +166,7 @@ module _ {Reader Plan Premise : Type 0} (words : Words Reader Plan Premise)
       (begun_last m faulty meanwhile node after too right starts sent begins rounds r
       ∙ last_back)
 
-  locked : IsBorne m faulty → m.bound ≤ after
+  locked : IsToleratedBy m faulty → m.bound ≤ after
       → IsLocked m faulty (states_written words m calls begins after)
   locked borne le =
       let kept =

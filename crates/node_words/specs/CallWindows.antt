@@ -5,7 +5,7 @@ use Rattle.std.specs.List.{range_with_len}
 use Rattle.sync_types.specs.States.{State}
 use Rattle.construction.specs.Runs.{is_in}
 use Rattle.state_codec.specs.Reading.{read}
-use Rattle.machines.specs.Machines.{Machine, IsBorne, IsLocked}
+use Rattle.machines.specs.Machines.{Machine, IsToleratedBy, IsLocked}
 use Rattle.node_stepper.specs.Cells.{cell_number}
 use Rattle.node_stepper.specs.NodeRuns.{IsCorrect, SomeIsCorrect}
 use Rattle.node_stepper.specs.Losses.{AreMissed}
@@ -76,7 +76,7 @@ module _ {Reader Plan Premise : Type 0} (words : Words Reader Plan Premise) (m :
   -- Whichever nodes are faulty that the machine tolerates, if one is left that is correct,
   -- connected calls keep the promise.
   abbrev pub ConnectedCallsCount : Type 0
-  ConnectedCallsCount = (faulty : List ℕ) → IsBorne m faulty → SomeIsCorrect m faulty
+  ConnectedCallsCount = (faulty : List ℕ) → IsToleratedBy m faulty → SomeIsCorrect m faulty
       → (calls : ℕ → Call) (begins : ℕ → ℕ) (rounds : ℕ)
       → CallsConnect words m faulty calls begins rounds
       → NodesKeepPromise words m faulty calls begins rounds
@@ -84,7 +84,7 @@ module _ {Reader Plan Premise : Type 0} (words : Words Reader Plan Premise) (m :
   -- From any locked configuration on, calls stay locked and count when cells are lost, as long as
   -- each correct node is given in each round the cells of N - F correct nodes, its own among them.
   abbrev pub HeardCallsStayLocked : Type 0
-  HeardCallsStayLocked = (faulty : List ℕ) → IsBorne m faulty → SomeIsCorrect m faulty
+  HeardCallsStayLocked = (faulty : List ℕ) → IsToleratedBy m faulty → SomeIsCorrect m faulty
       → (calls : ℕ → Call) (begins : ℕ → ℕ) (rounds : ℕ)
       → CallsAreHeard words m faulty calls begins rounds → (from : ℕ) → from ≤ rounds
       → IsLocked m faulty (states_written words m calls begins from)

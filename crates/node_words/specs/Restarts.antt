@@ -1,7 +1,7 @@
 -- A process of a node that is started anew while others go on.
 use Rattle.std.specs.Prelude.{◌≡◌, ℕ, ◌+◌, ◌≤◌, ◌==◌, List, if◌then◌else◌}
 use Rattle.construction.specs.Steps.{state_of}
-use Rattle.machines.specs.Machines.{Machine, IsBorne, IsLocked}
+use Rattle.machines.specs.Machines.{Machine, IsToleratedBy, IsLocked}
 use Rattle.node_stepper.specs.NodeRuns.{IsCorrect, SomeIsCorrect}
 use Rattle.node_stepper.specs.RunLaws.{StayLockedThrough}
 pub use Rattle.node_stepper.specs.Restarts.{AreFaultyMeanwhile}
@@ -48,7 +48,8 @@ module _ {Reader Plan Premise : Type 0} (words : Words Reader Plan Premise) (m :
   -- It counts with them T rounds after its start; and at once if it was handed the last cell that
   -- was written in its place, so that this is its first one, and the configuration then was locked.
   abbrev pub RestartedNodesCount : Type 0
-  RestartedNodesCount = (faulty meanwhile : List ℕ) → IsBorne m faulty → IsBorne m meanwhile
+  RestartedNodesCount = (faulty meanwhile : List ℕ) → IsToleratedBy m faulty
+      → IsToleratedBy m meanwhile
       → (restart : Restart) → AreFaultyMeanwhile restart.node faulty meanwhile
       → SomeIsCorrect m meanwhile → (calls : ℕ → Call) (begins : ℕ → ℕ) (rounds : ℕ)
       → CallsConnect words m meanwhile calls begins (restart.after + rounds)

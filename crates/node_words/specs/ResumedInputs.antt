@@ -2,7 +2,7 @@
 use Rattle.std.specs.Prelude.{◌≡◌, ℕ, ◌+◌, ◌<◌, ◌≤◌, true, List, Ok}
 use Rattle.sync_types.specs.States.{State}
 use Rattle.construction.specs.Runs.{is_in}
-use Rattle.machines.specs.Machines.{Machine, IsState, IsBorne, IsLocked}
+use Rattle.machines.specs.Machines.{Machine, IsState, IsToleratedBy, IsLocked}
 use Rattle.node_stepper.specs.Bytes.{AreBytes, AllFit}
 use Rattle.node_stepper.specs.NodeRuns.{IsCorrect}
 use Rattle.node_words.specs.Constructions.{Words}
@@ -39,7 +39,7 @@ module _ {Reader Plan Premise : Type 0} (words : Words Reader Plan Premise) (lin
     pub handed : cell_written words m
         (calls_after (restart_with node after resumed) (calls_of inputs)) 0 node
         ≡ cell_written words m (calls_of inputs) (begins node + after) node
-    pub locked : IsBorne m faulty → m.bound ≤ after
+    pub locked : IsToleratedBy m faulty → m.bound ≤ after
         → IsLocked m faulty (states_written words m (calls_of inputs) begins after)
     pub given : (t v u : ℕ) → t < begins v + (after + rounds) → IsCorrect m meanwhile v
         → u < m.nodes → is_in faulty u ≡ true

@@ -23,7 +23,7 @@ use Rattle.adversary_script.specs.ScriptPart.{script_of}
 use Rattle.adversary_script.proofs.ReadScripts.{script_is_for, script_is_script}
 use Rattle.round_runner.specs.Runners as runner
 use Rattle.slot_table.specs.SlotPart as slots
-use Rattle.consensus_layer.specs.AgreeSaid.{AgreeSaid}
+use Rattle.consensus_layer.specs.AgreeContent.{AgreeContent}
 use Rattle.consensus_layer.specs.AgreePart as agree
 use Rattle.consensus_layer.specs.Agreements.{agree_layer}
 use Rattle.firing.specs.FirePart as fire
@@ -46,24 +46,25 @@ use Rattle.outcomes.specs.Layered.{slots_shape, slotted_of, agreed_of}
 use Rattle.outcomes.specs.Layered.{firing_of, logging_of, shape_for, layered_by}
 
 -- what was read: a part that fits its plan, and a script for both
-pub record IsRead {Said : Type 0} (shape_for : Plan → Said → Shape) (Fits : Plan → Said → Type 0)
-    (read : Layered Said) : Type 0 where
+pub record IsRead {Content : Type 0} (shape_for : Plan → Content → Shape)
+    (Fits : Plan → Content → Type 0)
+    (read : Layered Content) : Type 0 where
   pub accepted : IsAccepted read.plan
   pub fits : Fits read.plan read.said
-  pub right : script.IsFor read.plan (shape_for read.plan read.said) read.script
+  pub right : script.IsScriptForPlan read.plan (shape_for read.plan read.said) read.script
   pub whole : IsScript read.script
   pub sound : IsShape (shape_for read.plan read.said)
 
-module _ {Said : Type 0} (name : Part)
-    (part_of : Plan → (number : ℕ) → List (List ℕ) → Result (Found Said) (At Rule))
-    (shape_for : Plan → Said → Shape) (Fits : Plan → Said → Type 0)
+module _ {Content : Type 0} (name : Part)
+    (part_of : Plan → (number : ℕ) → List (List ℕ) → Result (Found Content) (At Rule))
+    (shape_for : Plan → Content → Shape) (Fits : Plan → Content → Type 0)
     (fit : (plan : Plan) (number : ℕ) (lines : List (List ℕ))
     → IfOk (part_of plan number lines) (λ found. Fits plan found.value))
-    (sound : (plan : Plan) (said : Said) → IsAccepted plan → Fits plan said
+    (sound : (plan : Plan) (said : Content) → IsAccepted plan → Fits plan said
     → IsShape (shape_for plan said)) where
-  script_read : (plan : Plan) (said : Said) → IsAccepted plan → Fits plan said
+  script_read : (plan : Plan) (said : Content) → IsAccepted plan → Fits plan said
       → (s : Result Script (At Rule))
-      → IfOk s (script.IsFor plan (shape_for plan said)) → IfOk s IsScript
+      → IfOk s (script.IsScriptForPlan plan (shape_for plan said)) → IfOk s IsScript
       → IfOk (layered_with name part_of shape_for plan said s) (IsRead shape_for Fits)
   script_read plan said accepted fits (Err at) right whole = tt
   script_read plan said accepted fits (Ok s) right whole = record {
@@ -74,7 +75,8 @@ module _ {Said : Type 0} (name : Part)
     sound = sound plan said accepted fits;
   }
 
-  part_read : (plan : Plan) → IsAccepted plan → (number : ℕ) (found : Result (Found Said) (At Rule))
+  part_read : (plan : Plan) → IsAccepted plan
+      → (number : ℕ) (found : Result (Found Content) (At Rule))
       → IfOk found (λ f. Fits plan f.value)
       → IfOk (behind_part name part_of shape_for plan number found) (IsRead shape_for Fits)
   part_read plan accepted number (Err at) fits = tt
@@ -101,8 +103,9 @@ module _ {Said : Type 0} (name : Part)
   input_read input = plan_read (plan_of input) (plan_accepted input)
 
 -- what follows from it holds of the input
-pub so : {Said : Type 0} {A B : Layered Said → Type 0} (read : Result (Layered Said) Refusal)
-    → IfOk read A → ((l : Layered Said) → A l → B l) → IfOk read B
+pub so : {Content : Type 0} {A B : Layered Content → Type 0}
+    (read : Result (Layered Content) Refusal)
+    → IfOk read A → ((l : Layered Content) → A l → B l) → IfOk read B
 so (Err refusal) is then = tt
 so (Ok l) is then = then l is
 
@@ -122,17 +125,18 @@ further_sound plan values count accepted two few =
     })
 
 -- A part that fits its plan, and a script to play with the part's layer.
-pub record IsToPlay {Said Kept : Type 0} (Fits : Plan → Said → Type 0)
-    (layer_of : Plan → Said → Layer Kept) (read : Layered Said) : Type 0 where
+pub record IsToPlay {Content Kept : Type 0} (Fits : Plan → Content → Type 0)
+    (layer_of : Plan → Content → Layer Kept) (read : Layered Content) : Type 0 where
   pub accepted : IsAccepted read.plan
   pub fits : Fits read.plan read.said
-  pub right : runner.IsFor read.plan (layer_of read.plan read.said) read.script
+  pub right : runner.IsPlayableOn read.plan (layer_of read.plan read.said) read.script
   pub whole : IsScript read.script
   pub sound : IsShape read.script.shape
 
 -- a script for the shape with a layer's registers is one to play with the layer
-pub to_play : {Said Kept : Type 0} (shape_for : Plan → Said → Shape) (Fits : Plan → Said → Type 0)
-    (layer_of : Plan → Said → Layer Kept) (l : Layered Said)
+pub to_play : {Content Kept : Type 0} (shape_for : Plan → Content → Shape)
+    (Fits : Plan → Content → Type 0)
+    (layer_of : Plan → Content → Layer Kept) (l : Layered Content)
     → LayerFits (layer_of l.plan l.said) (plan_meaning l.plan)
     → shape_for l.plan l.said
     ≡ shape_with l.plan (layer_of l.plan l.said).values (layer_of l.plan l.said).extra
@@ -152,14 +156,14 @@ to_play shape_for Fits layer_of l over is read = record {
 
 -- ---- a part for the counter of a plan
 
-module _ {Said : Type 0} (name : Part)
-    (part_over : Numbers → (number : ℕ) → List (List ℕ) → Result (Found Said) (At Rule))
-    (registers : Said → Option Registers) (Fits : Numbers → Said → Type 0)
+module _ {Content : Type 0} (name : Part)
+    (part_over : Numbers → (number : ℕ) → List (List ℕ) → Result (Found Content) (At Rule))
+    (registers : Content → Option Registers) (Fits : Numbers → Content → Type 0)
     (sound : IsSoundPart part_over registers Fits) where
-  abbrev FitsPlan : Plan → Said → Type 0
+  abbrev FitsPlan : Plan → Content → Type 0
   FitsPlan plan = Fits (numbers_of plan)
 
-  abbrev shaped : Plan → Said → Shape
+  abbrev shaped : Plan → Content → Shape
   shaped plan said = shape_for plan (registers said)
 
   shape_sound : (plan : Plan) → IsAccepted plan → (more : Option Registers) → IfSome more AreFew
@@ -177,7 +181,7 @@ module _ {Said : Type 0} (name : Part)
       shape_sound plan accepted (registers said) (sound.few (numbers_of plan) said fits)) input
 
   -- that says a layer
-  pub layer_to_play : {Kept : Type 0} (words : LayerWords Said Kept)
+  pub layer_to_play : {Kept : Type 0} (words : LayerWords Content Kept)
       → IsSoundLayer words registers Fits → (input : List ℕ)
       → IfOk (layered_by name part_over registers input)
       (IsToPlay FitsPlan (λ plan. words.layer (numbers_of plan)))
@@ -192,11 +196,11 @@ module _ {Said : Type 0} (name : Part)
 pub slots_read : (input : List ℕ) → IfOk (slotted_of input) (IsRead slots_shape slots.AreFor)
 slots_read = layered_read part.Slots slots_over no_registers AreForNumbers slots_sound
 
-abbrev pub agreed_layer : Plan → AgreeSaid → Layer ℕ
+abbrev pub agreed_layer : Plan → AgreeContent → Layer ℕ
 agreed_layer plan said = agree_layer plan said.values said.inputs
 
 pub decisions_to_play : (input : List ℕ)
-    → IfOk (agreed_of input) (IsToPlay agree.IsFor agreed_layer)
+    → IfOk (agreed_of input) (IsToPlay agree.IsAgreeForPlan agreed_layer)
 decisions_to_play =
     layer_to_play part.Agree agree.part_over agree_registers agree.IsForNumbers agree_sound
     agree_words agree_right
@@ -206,7 +210,8 @@ fires_to_play =
     layer_to_play part.Fire fire.part_over fire_registers fire.AreForNumbers fire_sound
     fire_words fire_right
 
-pub entries_to_play : (input : List ℕ) → IfOk (logging_of input) (IsToPlay log.IsFor log_layer)
+pub entries_to_play : (input : List ℕ)
+    → IfOk (logging_of input) (IsToPlay log.IsLogForPlan log_layer)
 entries_to_play =
     layer_to_play part.Log log.part_over log_registers log.IsForNumbers log_sound log_words
     log_right

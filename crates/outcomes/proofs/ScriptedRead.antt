@@ -11,7 +11,7 @@ use Rattle.plan_reader.proofs.AcceptedPlans.{plan_accepted}
 use Rattle.state_codec.specs.Shapes.{shape_of}
 use Rattle.state_codec.proofs.Plans.{shape_of_accepted}
 use Rattle.adversary_script.specs.Scripts.{Script, IsScript}
-use Rattle.adversary_script.specs.ScriptPart.{script_of, IsFor}
+use Rattle.adversary_script.specs.ScriptPart.{script_of, IsScriptForPlan}
 use Rattle.adversary_script.proofs.ReadScripts.{script_is_for, script_is_script}
 use Rattle.adversary_script.proofs.OneEra.{read_has_eras}
 use Rattle.round_runner.specs.Laws.{IsReadFor}
@@ -24,7 +24,7 @@ pub record IsRead (scripted : Scripted) : Type 0 where
   pub eras : HasItsEras scripted.script
 
 script_read : (plan : Plan) (script : Result Script (At Rule)) → IsAccepted plan
-    → IfOk script (IsFor plan (shape_of plan)) → IfOk script IsScript
+    → IfOk script (IsScriptForPlan plan (shape_of plan)) → IfOk script IsScript
     → ((s : Script) → script ≡ Ok s → HasItsEras s)
     → IfOk (with_script plan script) IsRead
 script_read plan (Err at) accepted right whole eras = tt

@@ -14,7 +14,7 @@ use Rattle.plan_finder.specs.Potentials.{ArePotentials, IsKnown, IsAtMost, Steps
 use Rattle.plan_finder.specs.Potentials.{KeepsBound, bound_in}
 use Rattle.plan_finder.specs.Wanted.{IsPlanFor}
 use Rattle.plan_finder.specs.Building.{IsBuilt}
-use Rattle.plan_finder.specs.Best.{levels_in, IsKept, IsBestOf, HasFaults}
+use Rattle.plan_finder.specs.Best.{levels_in, IsValidBest, IsBestOf, HasFaults}
 use Rattle.plan_finder.proofs.Paths.{plan_path}
 use Rattle.plan_finder.proofs.Sets.{path_few}
 use Rattle.plan_finder.proofs.Moduli.{least_plan, bound_counting}
@@ -137,6 +137,6 @@ module _ (most : ℕ) (some : 1 ≤ most) (pots : List Pot) (are : AreLeastCosts
   }
 
 pub built_from : (most f : ℕ) (best : Option Best) → IsBestOf (HasFaults most f (most + 1)) best
-    → IfSome best (λ best. IsKept best × IsPath most (levels_in best))
+    → IfSome best (λ best. IsValidBest best × IsPath most (levels_in best))
 built_from most f None is = tt
 built_from most f (Some best) is = (is.kept, is.member.path)

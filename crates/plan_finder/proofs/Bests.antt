@@ -12,7 +12,7 @@ use Rattle.plan_finder.specs.Steps.{IsStep, cost_of}
 use Rattle.plan_finder.specs.Orders.{IsLess, steps_of, rank_of}
 use Rattle.plan_finder.specs.Costs.{Reaches}
 use Rattle.plan_finder.specs.Best.{level_by, levels_by, numbers_by, steps_in, levels_in, rank_in}
-use Rattle.plan_finder.specs.Best.{IsKept, IsBest, IsBestOf, IsLesser, IsWith, AreOver}
+use Rattle.plan_finder.specs.Best.{IsValidBest, IsBest, IsBestOf, IsLesser, IsWith, AreOver}
 use Rattle.plan_finder.proofs.Orders.{less_then, less_below, less_split, less_irreflexive}
 use Rattle.plan_finder.proofs.Paths.{length-steps_of}
 
@@ -37,7 +37,7 @@ numbers_from_top (step ∷ steps) =
     ap (λ ns. ns ++ (step.blocks ∷ step.faults ∷ [])) (numbers_from_top steps)
     ∙ (sym (numbers_by_push (reverse steps) step) ∙ ap numbers_by (sym turned))
 
-pub rank_is : (best : Best) → IsKept best → rank_in best ≡ rank_of (levels_in best)
+pub rank_is : (best : Best) → IsValidBest best → rank_in best ≡ rank_of (levels_in best)
 rank_is best kept =
     let steps : List Step = steps_in best in
     let deep : best.depth ≡ length (levels_in best) =
@@ -152,7 +152,7 @@ module _ (most n f k g : ℕ) (front new : Best) (is : IsBest (Reaches most n f)
   levels_are =
       ap levels_by shape.steps ∙ levels_by_push (steps_in front) (record { blocks = k; faults = g })
 
-  over_kept : IsKept new
+  over_kept : IsValidBest new
   over_kept = record {
     value = shape.value ∙ (ap (λ v. v + cost_of k g) is.kept.value ∙ ap bound_of (sym levels_are));
     nodes =

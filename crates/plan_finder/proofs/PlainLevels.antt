@@ -16,7 +16,7 @@ use Rattle.plan_finder.specs.declared.best.Step.{Step}
 use Rattle.plan_finder.specs.declared.best.Best.{Best}
 use Rattle.plan_finder.specs.Steps.{IsPath, IsStep}
 use Rattle.plan_finder.specs.Orders.{steps_of, rank_of}
-use Rattle.plan_finder.specs.Best.{level_by, levels_by, levels_in, IsKept}
+use Rattle.plan_finder.specs.Best.{level_by, levels_by, levels_in, IsValidBest}
 use Rattle.plan_finder.specs.Building.{base_under, counting_by, plan_with}
 use Rattle.plan_finder.proofs.AllLevels.{IsPlain}
 use Rattle.plan_finder.proofs.Moduli.{accepts}
@@ -114,7 +114,7 @@ levels_from levels plain =
     ∙ (ap (map level_by) (reverse-reverse (map step_by levels)) ∙ levels_again levels plain))
 
 pub kept_from : (levels : List Level) → IsPlain levels → length levels ≤ 5
-    → IsKept (best_from levels)
+    → IsValidBest (best_from levels)
 kept_from levels plain few = record {
   value = ap bound_of (sym (levels_from levels plain));
   nodes = ap nodes_of (sym (levels_from levels plain));

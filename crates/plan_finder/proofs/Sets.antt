@@ -12,7 +12,7 @@ use Rattle.construction.specs.Plans.{Level, nodes_of, faults_of, bound_of}
 use Rattle.plan_finder.specs.declared.best.Best.{Best}
 use Rattle.plan_finder.specs.Steps.{IsPath, IsStep, cost_of}
 use Rattle.plan_finder.specs.Costs.{Reaches}
-use Rattle.plan_finder.specs.Best.{levels_in, levels_by, steps_in, IsKept, IsBest, IsBestOf}
+use Rattle.plan_finder.specs.Best.{levels_in, levels_by, steps_in, IsValidBest, IsBest, IsBestOf}
 use Rattle.plan_finder.specs.Best.{IsLesser, IsTried, HasFaults, AreOver, AreBest}
 use Rattle.plan_finder.proofs.Bests.{same_set, together, rank_is}
 
@@ -60,7 +60,7 @@ module _ (most f n : ℕ) where
       faults_right faults_parts
 
 pub kept_if : (set : List Level → Type 0) (cell : Option Best) → IsBestOf set cell
-    → IfSome cell IsKept
+    → IfSome cell IsValidBest
 kept_if set None is = tt
 kept_if set (Some best) is = is.kept
 
@@ -261,7 +261,7 @@ module _ (most n g : ℕ) (two : 2 ≤ n) where
 
 -- ---- one more step fits
 
-depth_is : (best : Best) → IsKept best → length (levels_in best) ≡ best.depth
+depth_is : (best : Best) → IsValidBest best → length (levels_in best) ≡ best.depth
 depth_is best kept = let e = ap (λ ranks. get_or ranks 2 0) (rank_is best kept) in sym e
 
 module _ (most n f k : ℕ) (best : Best) (is : IsBest (Reaches most n f) best) (some : 3 ≤ k)

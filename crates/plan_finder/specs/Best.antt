@@ -32,7 +32,7 @@ abbrev pub levels_in : Best → List Level
 levels_in best = levels_by (steps_in best)
 
 -- the numbers that are kept are those of the levels
-pub record IsKept (best : Best) : Type 0 where
+pub record IsValidBest (best : Best) : Type 0 where
   pub value : best.value ≡ bound_of (levels_in best)
   pub nodes : best.nodes ≡ nodes_of (levels_in best)
   pub few : best.depth ≤ 5
@@ -51,7 +51,7 @@ rank_in best = best.value ∷ best.nodes ∷ best.depth ∷ numbers_by (steps_in
 
 -- of a set of levels the best ones are known, or the set is empty
 pub record IsBest (set : List Level → Type 0) (best : Best) : Type 0 where
-  pub kept : IsKept best
+  pub kept : IsValidBest best
   pub member : set (levels_in best)
   pub least : (other : List Level) → set other → ¬ IsLess (rank_of other) (rank_of (levels_in best))
 

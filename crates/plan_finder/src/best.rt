@@ -1,7 +1,8 @@
 ghost use Rattle.std.specs.Prelude.{◌≡◌, ◌+◌, ◌*◌, ◌<◌, ◌^◌, [], length};
 ghost use Rattle.std.specs.Bool.{Decides};
 ghost use Rattle.plan_finder.specs.Orders.{IsLess};
-ghost use Rattle.plan_finder.specs.Best.{numbers_by, steps_in, rank_in, IsKept, IsLesser, IsWith};
+ghost use Rattle.plan_finder.specs.Best.{numbers_by, steps_in, rank_in, IsValidBest, IsLesser};
+ghost use Rattle.plan_finder.specs.Best.{IsWith};
 
 /// A level, its modulus left aside.
 #[derive(Clone, Copy, Debug, PartialEq, Eq)]
@@ -47,7 +48,7 @@ impl Best {
     /// No levels.
     pub fn start() -> Best
         ensures none { steps_in result ≡ [] }
-        ensures kept { IsKept result }
+        ensures kept { IsValidBest result }
     {
         Best {
             value: 0,

@@ -1,7 +1,7 @@
 ghost use Rattle.std.specs.Prelude.{◌≡◌, ◌≤◌, ◌^◌, IfOk, IfSome};
 ghost use Rattle.std.specs.List.{All};
 ghost use Rattle.plan_finder.specs.Steps.{IsPath};
-ghost use Rattle.plan_finder.specs.Best.{levels_by, levels_in, IsKept};
+ghost use Rattle.plan_finder.specs.Best.{levels_by, levels_in, IsValidBest};
 ghost use Rattle.plan_finder.specs.Building.{plan_with, modulus_under, IsUsable, IsBuilt};
 ghost use Rattle.plan_numbers.specs.Premises.{IsAccepted};
 
@@ -54,7 +54,7 @@ pub fn plan_if(
     c: u64,
     most: u64,
 ) -> Result<Option<Plan>, NoMemory>
-    requires best { IfSome best (λ best. IsKept best × IsPath most (levels_in best)) }
+    requires best { IfSome best (λ best. IsValidBest best × IsPath most (levels_in best)) }
     requires modulus { (2 ≤ c) × (c ≤ 2 ^ 40) }
     requires most { most ≤ 256 }
     ensures { IfOk result (λ plan. IsBuilt c best plan) }

@@ -8,7 +8,7 @@ use Rattle.counting.specs.Places.{places}
 use Rattle.construction.specs.Plans.{Level, Plan, group_size, nodes_of, faults_of, plan_bound}
 use Rattle.construction.specs.PhaseKing.{up}
 use Rattle.construction.specs.Steps.{state_of}
-use Rattle.construction.specs.Runs.{is_in, configuration, Run, IsBorne, IsLocked}
+use Rattle.construction.specs.Runs.{is_in, configuration, Run, IsToleratedBy, IsLocked}
 use Rattle.phase_king.specs.Hearing.{AllLocked}
 use Rattle.plan_numbers.specs.Premises.{IsAccepted}
 use Rattle.counter_core.specs.Meanings.{Meaning}
@@ -90,7 +90,8 @@ top_words m base level below e faulty run from stays =
     (λ t v. register_at d (state_of (configuration run t) v))) e.nodes e.depth stays
 
 locks : (version base : ℕ) (levels : List Level) → IsAccepted (plan_over version base levels)
-    → (faulty : List ℕ) (run : List (List State)) → IsBorne (plan_over version base levels) faulty
+    → (faulty : List ℕ) (run : List (List State))
+    → IsToleratedBy (plan_over version base levels) faulty
     → Run (plan_over version base levels) faulty run
     → plan_bound (plan_over version base levels) < length run
     → IsLocked (plan_over version base levels) faulty
@@ -123,7 +124,8 @@ locks_at_bound plan accepted faulty run borne is long =
     locks plan.version plan.base plan.levels accepted faulty run borne is long
 
 stays_from : (version base : ℕ) (levels : List Level) → IsAccepted (plan_over version base levels)
-    → (faulty : List ℕ) (run : List (List State)) → IsBorne (plan_over version base levels) faulty
+    → (faulty : List ℕ) (run : List (List State))
+    → IsToleratedBy (plan_over version base levels) faulty
     → Run (plan_over version base levels) faulty run
     → (from : ℕ) → from < length run
     → IsLocked (plan_over version base levels) faulty (configuration run from)

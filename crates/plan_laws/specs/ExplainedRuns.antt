@@ -5,7 +5,7 @@ use Rattle.sync_types.specs.States.{State}
 use Rattle.construction.specs.Plans.{Level, Plan, plan_nodes, plan_faults, plan_depth, plan_bound}
 use Rattle.construction.specs.Shown.{shown}
 use Rattle.construction.specs.Steps.{state_of}
-use Rattle.construction.specs.Runs.{is_in, configuration, Run, IsBorne, IsLocked}
+use Rattle.construction.specs.Runs.{is_in, configuration, Run, IsToleratedBy, IsLocked}
 use Rattle.plan_numbers.specs.Numbers.{with_level}
 use Rattle.plan_numbers.specs.Premises.{IsAccepted}
 use Rattle.plan_laws.specs.Explained.{Explains, IsExplained}
@@ -25,7 +25,7 @@ ExplainsRun below level faulty run t b s k =
 -- What is explained is locked when the phase has ended.
 abbrev pub ExplainedRunsLock : Type 0
 ExplainedRunsLock = (below : Plan) (level : Level) → IsAccepted (with_level below level)
-    → (faulty : List ℕ) (run : List (List State)) → IsBorne (with_level below level) faulty
+    → (faulty : List ℕ) (run : List (List State)) → IsToleratedBy (with_level below level) faulty
     → Run (with_level below level) faulty run
     → (t b s k : ℕ) → ExplainsRun below level faulty run t b s k
     → IsLocked (with_level below level) faulty (configuration run (s + 3))
@@ -34,7 +34,7 @@ ExplainedRunsLock = (below : Plan) (level : Level) → IsAccepted (with_level be
 -- plan below and the bound.
 abbrev pub BoundIsExplained : Type 0
 BoundIsExplained = (below : Plan) (level : Level) → IsAccepted (with_level below level)
-    → (faulty : List ℕ) (run : List (List State)) → IsBorne (with_level below level) faulty
+    → (faulty : List ℕ) (run : List (List State)) → IsToleratedBy (with_level below level) faulty
     → Run (with_level below level) faulty run
     → plan_bound (with_level below level) < length run
     → IsExplained level (plan_nodes below) (plan_faults below) (is_in faulty) (length run - 1)

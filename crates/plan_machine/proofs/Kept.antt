@@ -15,7 +15,7 @@ use Rattle.state_codec.proofs.Plans.{depth_of_shape, nodes_of_shape}
 use Rattle.state_codec.proofs.PlanStates.{state_of_node}
 use Rattle.machines.specs.Machines.{IsConfiguration}
 use Rattle.plan_machine.specs.PlanMachines.{machine_of_plan, lock_of}
-use Rattle.plan_machine.specs.Kept.{IsKept}
+use Rattle.plan_machine.specs.Kept.{IsValidPlanMachine}
 
 -- a place within a list needs no default
 within : (states : List State) (v : ℕ) (d e : State) → v < length states
@@ -32,7 +32,7 @@ lock_is [] (Some register) is = absurd (omega (arith, is.0))
 lock_is (level ∷ below) None is = absurd (is (omega arith))
 lock_is (level ∷ below) (Some register) is = ap Some (omega (arith, is.1))
 
-module _ (plan : Plan) (shape : Shape) (kept : IsKept plan shape) where
+module _ (plan : Plan) (shape : Shape) (kept : IsValidPlanMachine plan shape) where
   pub node_of_shape : (v : ℕ) → v < plan_nodes plan → v < shape_nodes shape
   node_of_shape v lt = rw (kept.shaped, nodes_of_shape plan (moduli_of plan.levels)) lt
 

@@ -27,11 +27,11 @@ module _ (plan : Plan) (accepted : IsAccepted plan) where
   machine = machine_of_plan plan
 
   pub borne_here : (faulty : List ℕ)
-      → plan_runs.IsBorne plan faulty → machines.IsBorne machine faulty
+      → plan_runs.IsToleratedBy plan faulty → machines.IsToleratedBy machine faulty
   borne_here faulty is = record { rising = is.rising; ids = is.ids; few = is.few }
 
   pub borne_there : (faulty : List ℕ)
-      → machines.IsBorne machine faulty → plan_runs.IsBorne plan faulty
+      → machines.IsToleratedBy machine faulty → plan_runs.IsToleratedBy plan faulty
   borne_there faulty is = record { rising = is.rising; ids = is.ids; few = is.few }
 
   config_here : (config : List State)

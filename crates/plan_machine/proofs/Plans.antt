@@ -3,7 +3,7 @@ use Rattle.std.proofs.Common.{◌≡◌, ℕ, ◌≤◌, List}
 use Rattle.sync_types.specs.States.{State}
 use Rattle.construction.specs.Plans.{Plan, plan_bound}
 use Rattle.construction.specs.Steps.{state_of}
-use Rattle.construction.specs.Runs.{IsBorne, IsLocked}
+use Rattle.construction.specs.Runs.{IsToleratedBy, IsLocked}
 use Rattle.plan_numbers.specs.Premises.{IsAccepted}
 use Rattle.machines.specs.Laws.{IsSound}
 use Rattle.machines.specs.Machines.{Machine}
@@ -78,7 +78,7 @@ module _ (plan : Plan) (accepted : IsAccepted plan) (faulty : List ℕ) (at : �
   }
 
   -- what is a run comes to count
-  module _ (r : RunThrough plan faulty at rounds) (borne : IsBorne plan faulty) where
+  module _ (r : RunThrough plan faulty at rounds) (borne : IsToleratedBy plan faulty) where
     here : any.RunThrough m faulty at rounds
     here = record {
       run = r.run;
@@ -87,7 +87,7 @@ module _ (plan : Plan) (accepted : IsAccepted plan) (faulty : List ℕ) (at : �
       states = r.states;
     }
 
-    borne_here : machines.IsBorne m faulty
+    borne_here : machines.IsToleratedBy m faulty
     borne_here = ((are_alike plan accepted).borne faulty).0 borne
 
     pub settle_through : CountThrough plan faulty at (plan_bound plan) rounds

@@ -4,6 +4,6 @@ use Rattle.construction.specs.Plans.{Plan}
 use Rattle.plan_numbers.specs.Premises.{IsAccepted}
 use Rattle.state_codec.specs.Shapes.{Shape, shape_of}
 
-pub record IsKept (plan : Plan) (shape : Shape) : Type 0 where
+pub record IsValidPlanMachine (plan : Plan) (shape : Shape) : Type 0 where
   pub accepted : IsAccepted plan
   pub shaped : shape ≡ shape_of plan

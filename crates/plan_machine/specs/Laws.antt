@@ -3,7 +3,8 @@ use Rattle.std.specs.Prelude.{◌≡◌, ℕ, ◌+◌, ◌%◌, ◌<◌, ◌≤�
 use Rattle.sync_types.specs.States.{State}
 use Rattle.construction.specs.Plans.{Plan, plan_nodes, plan_bound, plan_modulus}
 use Rattle.construction.specs.Steps.{state_of}
-use Rattle.construction.specs.Runs.{is_in, IsState, configuration, Run, AllShow, IsBorne, IsLocked}
+use Rattle.construction.specs.Runs.{is_in, IsState, configuration, Run, AllShow, IsToleratedBy}
+use Rattle.construction.specs.Runs.{IsLocked}
 use Rattle.plan_numbers.specs.Premises.{IsAccepted}
 use Rattle.state_codec.specs.Writing.{written}
 use Rattle.node_stepper.specs.Laws.{AreFull}
@@ -59,7 +60,7 @@ AnyLiesConnect = (plan : Plan) → IsAccepted plan → (faulty : List ℕ) (star
 
 -- Faulty nodes that an accepted plan tolerates leave a correct one.
 abbrev pub BorneLeavesSome : Type 0
-BorneLeavesSome = (plan : Plan) → IsAccepted plan → (faulty : List ℕ) → IsBorne plan faulty
+BorneLeavesSome = (plan : Plan) → IsAccepted plan → (faulty : List ℕ) → IsToleratedBy plan faulty
     → SomeIsCorrect plan faulty
 
 -- Connected nodes of an accepted plan are a run of it.
@@ -70,21 +71,21 @@ NodesRun = (plan : Plan) → IsAccepted plan → (faulty : List ℕ) (nodes : No
 
 -- As many rounds later as the bound says, they count.
 abbrev pub NodesSettle : Type 0
-NodesSettle = (plan : Plan) → IsAccepted plan → (faulty : List ℕ) → IsBorne plan faulty
+NodesSettle = (plan : Plan) → IsAccepted plan → (faulty : List ℕ) → IsToleratedBy plan faulty
     → (nodes : Nodes) (begins : ℕ → ℕ) (rounds : ℕ) → AreConnected plan faulty nodes begins rounds
     → CountThrough plan faulty (states_in plan nodes begins) (plan_bound plan)
     rounds
 
 -- There they are locked.
 abbrev pub NodesLock : Type 0
-NodesLock = (plan : Plan) → IsAccepted plan → (faulty : List ℕ) → IsBorne plan faulty
+NodesLock = (plan : Plan) → IsAccepted plan → (faulty : List ℕ) → IsToleratedBy plan faulty
     → (nodes : Nodes) (begins : ℕ → ℕ) (rounds : ℕ) → AreConnected plan faulty nodes begins rounds
     → plan_bound plan ≤ rounds
     → IsLocked plan faulty (states_in plan nodes begins (plan_bound plan))
 
 -- Once they are locked, they stay so, and count, whatever cells of faulty nodes follow.
 abbrev pub NodesStayLocked : Type 0
-NodesStayLocked = (plan : Plan) → IsAccepted plan → (faulty : List ℕ) → IsBorne plan faulty
+NodesStayLocked = (plan : Plan) → IsAccepted plan → (faulty : List ℕ) → IsToleratedBy plan faulty
     → (nodes : Nodes) (begins : ℕ → ℕ) (rounds : ℕ) → AreConnected plan faulty nodes begins rounds
     → (from : ℕ) → from ≤ rounds → IsLocked plan faulty (states_in plan nodes begins from)
     → StayLockedThrough plan faulty (states_in plan nodes begins) from rounds
@@ -92,7 +93,8 @@ NodesStayLocked = (plan : Plan) → IsAccepted plan → (faulty : List ℕ) → 
 -- So they do when states are lost, as long as each correct node hears those of N - F correct nodes
 -- in each round, itself among them.
 abbrev pub HeardNodesStayLocked : Type 0
-HeardNodesStayLocked = (plan : Plan) → IsAccepted plan → (faulty : List ℕ) → IsBorne plan faulty
+HeardNodesStayLocked = (plan : Plan) → IsAccepted plan → (faulty : List ℕ)
+    → IsToleratedBy plan faulty
     → (nodes : Nodes) (begins : ℕ → ℕ) (rounds : ℕ) → AreHeard plan faulty nodes begins rounds
     → (from : ℕ) → from ≤ rounds → IsLocked plan faulty (states_in plan nodes begins from)
     → StayLockedThrough plan faulty (states_in plan nodes begins) from rounds

@@ -2,7 +2,7 @@
 -- them.
 use Rattle.std.specs.Prelude.{ℕ, List}
 use Rattle.construction.specs.Plans.{Plan}
-use Rattle.construction.specs.Runs.{IsBorne}
+use Rattle.construction.specs.Runs.{IsToleratedBy}
 use Rattle.plan_machine.specs.PlanMachines.{machine_of_plan}
 use Rattle.node_stepper.specs.Missed as any
 use Rattle.plan_machine.specs.NodeRuns.{AreMissed}
@@ -17,5 +17,5 @@ others_of plan = any.others_of (machine_of_plan plan)
 
 -- Whichever these are, it may miss all others.
 abbrev pub OthersAreMissed : Type 0
-OthersAreMissed = (plan : Plan) (faulty heard : List ℕ) (v : ℕ) → IsBorne plan faulty
+OthersAreMissed = (plan : Plan) (faulty heard : List ℕ) (v : ℕ) → IsToleratedBy plan faulty
     → HearsEnough plan faulty heard v → AreMissed plan faulty v (others_of plan heard)

@@ -36,7 +36,7 @@ pub record AreAlike (plan : Plan) : Type 0 where
   pub states : (v : ℕ) (state : State) → v < plan_nodes plan
       → plan_runs.IsState plan v state ↔ machines.IsState (machine_of_plan plan) v state
   pub borne : (faulty : List ℕ)
-      → plan_runs.IsBorne plan faulty ↔ machines.IsBorne (machine_of_plan plan) faulty
+      → plan_runs.IsToleratedBy plan faulty ↔ machines.IsToleratedBy (machine_of_plan plan) faulty
   pub configurations : (config : List State)
       → plan_runs.IsConfiguration plan config
       ↔ machines.IsConfiguration (machine_of_plan plan) config

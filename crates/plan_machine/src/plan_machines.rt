@@ -19,13 +19,13 @@ pub struct PlanMachine {
 
 impl Model for PlanMachine {
     ghost use Rattle.construction.specs.Plans.{Plan};
-    ghost use Rattle.plan_machine.specs.Kept.{IsKept};
+    ghost use Rattle.plan_machine.specs.Kept.{IsValidPlanMachine};
 
     ghost Value = { Plan };
 
     ghost view = { λ t. t.tower };
 
-    ghost invariant = { λ t. IsKept t.tower t.shape };
+    ghost invariant = { λ t. IsValidPlanMachine t.tower t.shape };
 }
 
 impl PlanMachine {

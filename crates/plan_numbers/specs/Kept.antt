@@ -8,7 +8,8 @@ use Rattle.plan_numbers.specs.Sizes.{IsSized}
 
 -- the version and the base, the numbers of the levels with the lowest first, what stands below the
 -- next level, and for how many levels there is room
-pub record IsKept (version base : ℕ) (items : List LevelNums) (top : Below) (capacity : ℕ) : Type 0
+pub record IsValidPlan (version base : ℕ) (items : List LevelNums) (top : Below)
+    (capacity : ℕ) : Type 0
   where
     pub accepted : IsAccepted (record { version = version; base = base; levels = levels_in items })
     pub numbers : items ≡ numbers_of base (levels_in items)

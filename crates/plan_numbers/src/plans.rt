@@ -68,7 +68,7 @@ impl Model for Plan {
     ghost use Rattle.std.specs.Prelude.{vec_capacity};
     ghost use Rattle.construction.specs.Plans.{Plan};
     ghost use Rattle.plan_numbers.specs.Numbers.{levels_in};
-    ghost use Rattle.plan_numbers.specs.Kept.{IsKept};
+    ghost use Rattle.plan_numbers.specs.Kept.{IsValidPlan};
 
     ghost Value = { Plan };
 
@@ -79,7 +79,8 @@ impl Model for Plan {
           levels_in p.levels.items;
     } };
 
-    ghost invariant = { λ p. IsKept p.version p.base p.levels.items p.top (vec_capacity p.levels) };
+    ghost invariant = { λ p. IsValidPlan p.version p.base p.levels.items p.top
+        (vec_capacity p.levels) };
 }
 
 impl Plan {

@@ -1,4 +1,3 @@
 pub mod Asked
 pub mod Conduct
 pub mod Errors
-pub mod Telling

@@ -8,9 +8,7 @@
 mod asked;
 mod errors;
 mod process;
-mod telling;
 
 pub use asked::{Asked, asked_by};
 pub use errors::{LONGEST_INPUT, ProgramError, Reason, TOO_LONG, put_error};
 pub use process::{arguments, end, exit_code, words};
-pub use telling::tell;

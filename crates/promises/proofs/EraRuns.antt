@@ -6,7 +6,7 @@ use Rattle.std.proofs.lemmas.List.{length-map}
 use Rattle.std.proofs.lemmas.List.Elements.{All-get_or}
 use Rattle.std.proofs.lemmas.List.FromFn.{length-map-range_with_len, get_or-map-range_with_len}
 use Rattle.construction.specs.Plans.{Plan, plan_nodes}
-use Rattle.construction.specs.Runs.{IsState, IsBorne}
+use Rattle.construction.specs.Runs.{IsState, IsToleratedBy}
 use Rattle.plan_laws.specs.PlanMeaning.{plan_meaning}
 use Rattle.counter_core.specs.Overlays.{Layer, KeepsRange}
 use Rattle.adversary_script.specs.Scripts.{Script, Era, faulty_sets}
@@ -85,8 +85,8 @@ module _ {Kept : Type 0} (layer : Layer Kept) (plan : Plan) (script : Script)
               (next_is (first + i) (omega arith) (omega (arith, lt, long))));
         }
 
-    borne_in : IsBorne plan (faulty_of_era script j)
-    borne_in = All-get_or (IsBorne plan) (faulty_sets script) j []
+    borne_in : IsToleratedBy plan (faulty_of_era script j)
+    borne_in = All-get_or (IsToleratedBy plan) (faulty_sets script) j []
         (omega (arith, among, length-map script.eras (λ (era : Era). era.faulty))) is.right.borne
 
   -- so what lines say of any counter, they say of the plan's

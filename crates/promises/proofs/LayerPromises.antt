@@ -8,7 +8,7 @@ use Rattle.layer_laws.specs.Slots.{slot_length}
 use Rattle.layer_laws.proofs.PlanSlots.{quorum_of}
 use Rattle.slot_table.specs.declared.lines.SlotLine.{SlotLine}
 use Rattle.slot_table.specs.SlotPart as slots
-use Rattle.consensus_layer.specs.AgreeSaid.{AgreeSaid}
+use Rattle.consensus_layer.specs.AgreeContent.{AgreeContent}
 use Rattle.consensus_layer.specs.AgreePart as agree
 use Rattle.consensus_layer.specs.AgreeLaws.{agree_keeps}
 use Rattle.firing.specs.declared.requests.Request.{Request}
@@ -18,7 +18,7 @@ use Rattle.firing.specs.FirePart as fire
 use Rattle.firing.specs.FireLaws.{fire_keeps}
 use Rattle.replicated_log.specs.declared.entries.Entry.{Entry}
 use Rattle.replicated_log.specs.EntryLength.{entry_length}
-use Rattle.replicated_log.specs.LogSaid.{LogSaid}
+use Rattle.replicated_log.specs.LogContent.{LogContent}
 use Rattle.replicated_log.specs.Logs.{log_layer}
 use Rattle.replicated_log.specs.LogPart as log
 use Rattle.replicated_log.specs.LogLaws.{log_keeps}
@@ -38,9 +38,9 @@ use Rattle.promises.specs.LayerPromises.{EntriesAreKept}
 use Rattle.promises.proofs.LayerParts.{gives_outputs, requests_are_said, takes_turns}
 
 -- the script was read for the plan and the layer
-pub played : {Said Kept : Type 0} {Fits : Plan → Said → Type 0}
-    {layer_of : Plan → Said → Layer Kept}
-    (l : Layered Said) → IsToPlay Fits layer_of l
+pub played : {Content Kept : Type 0} {Fits : Plan → Content → Type 0}
+    {layer_of : Plan → Content → Layer Kept}
+    (l : Layered Content) → IsToPlay Fits layer_of l
     → IsReadFor l.plan (layer_of l.plan l.said) l.script
 played l is = record {
   accepted = is.accepted;
@@ -68,7 +68,7 @@ module _ (plays : PlainScriptsArePlayed) (texts : TextsAreWritten) (exact : Hold
 
 module _ (plays : (layer : Layer ℕ) → ScriptsArePlayed layer) (texts : TextsAreWritten)
     (count : (layer : Layer ℕ) → SlotsCount layer) (law : LinesDecide) where
-  decisions_of : (l : Layered AgreeSaid) → IsToPlay agree.IsFor agreed_layer l
+  decisions_of : (l : Layered AgreeContent) → IsToPlay agree.IsAgreeForPlan agreed_layer l
       → KeepsDecisions l.plan l.script l.said
   decisions_of l read =
       let keeps = agree_keeps (plan_nodes l.plan) (plan_faults l.plan) (plan_modulus l.plan)
@@ -106,7 +106,7 @@ module _ (plays : (layer : Layer Fire) → ScriptsArePlayed layer) (texts : Text
 
 module _ (plays : (layer : Layer (List Entry)) → ScriptsArePlayed layer) (texts : TextsAreWritten)
     (count : (layer : Layer (List Entry)) → SlotsCount layer) (law : LinesPutOne) where
-  entries_of : (l : Layered LogSaid) → IsToPlay log.IsFor log_layer l
+  entries_of : (l : Layered LogContent) → IsToPlay log.IsLogForPlan log_layer l
       → KeepsEntries l.plan l.script l.said
   entries_of l read =
       let keeps = log_keeps (plan_nodes l.plan) (plan_faults l.plan) (plan_modulus l.plan)

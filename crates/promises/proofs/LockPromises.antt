@@ -2,11 +2,11 @@
 use Rattle.std.proofs.Common.{ℕ, List, [], replicate}
 use Rattle.construction.specs.Plans.{plan_nodes}
 use Rattle.slot_table.specs.declared.lines.SlotLine.{SlotLine}
-use Rattle.consensus_layer.specs.AgreeSaid.{AgreeSaid}
+use Rattle.consensus_layer.specs.AgreeContent.{AgreeContent}
 use Rattle.firing.specs.declared.requests.Request.{Request}
 use Rattle.firing.specs.Firings.{fire_layer, unfired}
 use Rattle.firing.specs.declared.fires.Fire.{Fire}
-use Rattle.replicated_log.specs.LogSaid.{LogSaid}
+use Rattle.replicated_log.specs.LogContent.{LogContent}
 use Rattle.replicated_log.specs.Logs.{log_layer}
 use Rattle.replicated_log.specs.declared.entries.Entry.{Entry}
 use Rattle.counter_core.specs.Overlays.{Layer}
@@ -20,16 +20,16 @@ pub locks_kept : PlainErasLock → ((layer : Layer ℕ) → LayeredErasLock laye
     → ((layer : Layer Fire) → LayeredErasLock layer)
     → ((layer : Layer (List Entry)) → LayeredErasLock layer) → LocksAreKept
 locks_kept plain agreed fired logged = record {
-  slots = λ input. so {Said = List SlotLine} _ (slots_read input)
+  slots = λ input. so {Content = List SlotLine} _ (slots_read input)
       (λ l read. plain l.plan l.script
       (record { accepted = read.accepted; right = read.right; whole = read.whole }));
-  consensus = λ input. so {Said = AgreeSaid} _ (decisions_to_play input)
+  consensus = λ input. so {Content = AgreeContent} _ (decisions_to_play input)
       (λ l read. agreed (agreed_layer l.plan l.said) l.plan l.script (played l read)
       (replicate (plan_nodes l.plan) 0));
-  fire = λ input. so {Said = List Request} _ (fires_to_play input)
+  fire = λ input. so {Content = List Request} _ (fires_to_play input)
       (λ l read. fired (fire_layer l.plan l.said) l.plan l.script (played l read)
       (replicate (plan_nodes l.plan) unfired));
-  log = λ input. so {Said = LogSaid} _ (entries_to_play input)
+  log = λ input. so {Content = LogContent} _ (entries_to_play input)
       (λ l read. logged (log_layer l.plan l.said) l.plan l.script (played l read)
       (replicate (plan_nodes l.plan) []));
 }

@@ -2,7 +2,7 @@
 use Rattle.std.proofs.Common.{ℕ, ◌+◌, List}
 use Rattle.sync_types.specs.States.{State}
 use Rattle.construction.specs.Plans.{Plan}
-use Rattle.construction.specs.Runs.{IsBorne, IsLocked}
+use Rattle.construction.specs.Runs.{IsToleratedBy, IsLocked}
 use Rattle.machines.specs.Machines as machines
 use Rattle.plan_numbers.specs.Premises.{IsAccepted}
 use Rattle.plan_laws.specs.VersionLaws.{in_version}
@@ -24,8 +24,8 @@ use Rattle.promises.specs.Restarts.{calls_after, begins_after, RestartedNodesCou
 use Rattle.promises.proofs.PlanCalls.{headers_of_machines, are_accepted}
 
 module _ (plan : Plan) where
-  borne_here : (faulty : List ℕ) → IsBorne plan faulty
-      → machines.IsBorne (machine_of_plan plan) faulty
+  borne_here : (faulty : List ℕ) → IsToleratedBy plan faulty
+      → machines.IsToleratedBy (machine_of_plan plan) faulty
   borne_here faulty is = record { rising = is.rising; ids = is.ids; few = is.few }
 
   count : any.ConnectedCallsCount plan_words (machine_of_plan plan)

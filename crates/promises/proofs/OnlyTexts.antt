@@ -26,7 +26,7 @@ use Rattle.firing.specs.declared.requests.Request.{Request}
 use Rattle.firing.specs.FirePart as fire_part
 use Rattle.firing.specs.RequestTexts.{requests_text, HasRounds}
 use Rattle.firing.proofs.FitRequests.{requests_fit, requests_have_rounds}
-use Rattle.replicated_log.specs.LogSaid.{LogSaid}
+use Rattle.replicated_log.specs.LogContent.{LogContent}
 use Rattle.replicated_log.specs.LogPart as log_part
 use Rattle.replicated_log.specs.LogTexts.{log_text}
 use Rattle.replicated_log.proofs.FitLogs.{log_fits, logs_are_short}
@@ -39,23 +39,23 @@ use Rattle.promises.specs.OnlyTexts.{IsReadAgain, OnlyTextsAreRead}
 
 -- Of a part that fits its plan when it is read: what holds of each plan, part and script that a
 -- text can say, holds of what is read.
-module _ (writable : ReadIsWritable) {Said : Type 0} (name : Part)
-    (part_of : Plan → (number : ℕ) → List (List ℕ) → Result (Found Said) (At Rule))
-    (shape_for : Plan → Said → Shape) (Fits : Plan → Said → Type 0)
+module _ (writable : ReadIsWritable) {Content : Type 0} (name : Part)
+    (part_of : Plan → (number : ℕ) → List (List ℕ) → Result (Found Content) (At Rule))
+    (shape_for : Plan → Content → Shape) (Fits : Plan → Content → Type 0)
     (fit : (plan : Plan) (number : ℕ) (lines : List (List ℕ))
     → IfOk (part_of plan number lines) (λ found. Fits plan found.value))
-    (sound : (plan : Plan) (said : Said) → IsAccepted plan → Fits plan said
-    → IsShape (shape_for plan said)) (Holds : Layered Said → Type 0)
-    (holds : (plan : Plan) → IsAccepted plan → (said : Said) → Fits plan said
+    (sound : (plan : Plan) (said : Content) → IsAccepted plan → Fits plan said
+    → IsShape (shape_for plan said)) (Holds : Layered Content → Type 0)
+    (holds : (plan : Plan) → IsAccepted plan → (said : Content) → Fits plan said
     → (script : Script) → IsWritable plan (shape_for plan said) script
     → Holds (record { plan = plan; said = said; script = script })) where
-  by_script : (plan : Plan) → IsAccepted plan → (said : Said) → Fits plan said
+  by_script : (plan : Plan) → IsAccepted plan → (said : Content) → Fits plan said
       → (r : Result Script (At Rule)) → IfOk r (IsWritable plan (shape_for plan said))
       → IfOk (layered_with name part_of shape_for plan said r) Holds
   by_script plan accepted said fits (Err at) is = tt
   by_script plan accepted said fits (Ok script) is = holds plan accepted said fits script is
 
-  by_part : (plan : Plan) → IsAccepted plan → (number : ℕ) (r : Result (Found Said) (At Rule))
+  by_part : (plan : Plan) → IsAccepted plan → (number : ℕ) (r : Result (Found Content) (At Rule))
       → IfOk r (λ found. Fits plan found.value)
       → IfOk (behind_part name part_of shape_for plan number r) Holds
   by_part plan accepted number (Err at) fits = tt
@@ -86,8 +86,8 @@ both A B (Ok x) a b = (a, b)
 abbrev AreSaid : Plan → List Request → Type 0
 AreSaid plan requests = fire_part.AreFor plan requests × All HasRounds requests
 
-abbrev IsSaid : Plan → LogSaid → Type 0
-IsSaid plan said = log_part.IsFor plan said × All (λ own. length own ≤ 16) said.commands
+abbrev IsSaid : Plan → LogContent → Type 0
+IsSaid plan said = log_part.IsLogForPlan plan said × All (λ own. length own ≤ 16) said.commands
 
 pub only_texts : ScriptInputsAreRead → ReadIsWritable → OnlyTextsAreRead
 only_texts read writable = record {
@@ -96,7 +96,8 @@ only_texts read writable = record {
       (λ plan table accepted are. shape_of_accepted plan accepted)
       (IsReadAgain slotted_of slots_text) read.slots;
   consensus =
-      of_input writable part.Agree agree_part.part_of agree_shape agree_part.IsFor inputs_fit
+      of_input writable part.Agree agree_part.part_of agree_shape agree_part.IsAgreeForPlan
+      inputs_fit
       (λ plan said accepted is. further_sound plan said.values 1 accepted is.two is.few)
       (IsReadAgain agreed_of agree_text) read.consensus;
   fire =
@@ -112,7 +113,7 @@ only_texts read writable = record {
   log =
       of_input writable part.Log log_part.part_of log_shape IsSaid
       (λ plan number lines.
-      both (λ found. log_part.IsFor plan found.value)
+      both (λ found. log_part.IsLogForPlan plan found.value)
       (λ found. All (λ own. length own ≤ 16) found.value.commands)
       (log_part.part_of plan number lines) (log_fits plan number lines)
       (logs_are_short plan number lines))

@@ -8,7 +8,7 @@ use Rattle.std.proofs.lemmas.List.FromFn.{get_or-map-range_with_len}
 use Rattle.sync_types.specs.States.{State, zero_state}
 use Rattle.construction.specs.Plans.{Plan, plan_nodes}
 use Rattle.construction.specs.Steps.{state_of, step_of}
-use Rattle.construction.specs.Runs.{heard_by, IsBorne}
+use Rattle.construction.specs.Runs.{heard_by, IsToleratedBy}
 use Rattle.adversary_script.specs.Scripts.{Script, Era, faulty_sets}
 use Rattle.adversary_script.specs.Eras.{faulty_of_era, faulty_at}
 use Rattle.adversary_script.specs.Lookup.{hit_at}
@@ -44,8 +44,8 @@ module _ (plan : Plan) (script : Script) (is : IsReadFor plan script) where
       let same = is.right.nodes in
       told_is script t (at t) u v (omega (arith, ult, same)) (omega (arith, vlt, same))
 
-  borne_in : (j : ℕ) → j ≤ length script.eras → IsBorne plan (faulty_of_era script j)
-  borne_in j among = All-get_or (IsBorne plan) (faulty_sets script) j []
+  borne_in : (j : ℕ) → j ≤ length script.eras → IsToleratedBy plan (faulty_of_era script j)
+  borne_in j among = All-get_or (IsToleratedBy plan) (faulty_sets script) j []
       (omega (arith, among, length-map script.eras (λ (era : Era). era.faulty))) is.right.borne
 
 pub plain_scripts_are_played : ErasAreRuns → PlainScriptsArePlayed

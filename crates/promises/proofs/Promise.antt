@@ -5,7 +5,7 @@ use Rattle.std.specs.Prelude.{IfOk}
 use Rattle.std.proofs.lemmas.List.Elements.{All-get_or}
 use Rattle.std.proofs.lemmas.List.{length-map}
 use Rattle.construction.specs.Plans.{Plan, plan_bound}
-use Rattle.construction.specs.Runs.{IsBorne, IsLocked}
+use Rattle.construction.specs.Runs.{IsToleratedBy, IsLocked}
 use Rattle.adversary_script.specs.Scripts.{Script, Era, faulty_sets}
 use Rattle.adversary_script.specs.Eras.{era_of, first_of_era, faulty_of_era, faulty_at}
 use Rattle.round_runner.specs.Locks.{first_locked, era_locked, IsFirstLocked}
@@ -36,8 +36,8 @@ module _ (plan : Plan) (script : Script) (read : IsReadFor plan script) (j : ℕ
     grows = counts.grows;
   }
 
-  borne_in : IsBorne plan (faulty_of_era script j)
-  borne_in = All-get_or (IsBorne plan) (faulty_sets script) j []
+  borne_in : IsToleratedBy plan (faulty_of_era script j)
+  borne_in = All-get_or (IsToleratedBy plan) (faulty_sets script) j []
       (omega (arith, among, length-map script.eras (λ (era : Era). era.faulty))) read.right.borne
 
   -- the first number that passes the test is the first locked configuration

@@ -126,9 +126,9 @@ module _ (fronts : PlanTextIsRead) (whole : ScriptTextIsWhole) (plan : Plan)
       (shape_of plan) (own_is plan accepted) (own_fits plan accepted) script is
       (1 + (plan_depth plan + 3)))
 
-  module _ {Said : Type 0} (name : Part)
-      (part_of : Plan → (number : ℕ) → List (List ℕ) → Result (Found Said) (At Rule))
-      (shape_for : Plan → Said → Shape) (said : Said) (text : List ℕ) (taken : ℕ)
+  module _ {Content : Type 0} (name : Part)
+      (part_of : Plan → (number : ℕ) → List (List ℕ) → Result (Found Content) (At Rule))
+      (shape_for : Plan → Content → Shape) (said : Content) (text : List ℕ) (taken : ℕ)
       (read : (number : ℕ) (rest : List ℕ) → part_of plan number (lines_of (text ++ rest))
       ≡ Ok (record { value = said; taken = taken; behind = lines_of rest }))
       (is : IsShape (shape_for plan said))

@@ -252,30 +252,30 @@ scripts_unseen =
 
 -- ---- a part between the plan and the script
 
-module _ {S Said : Type 0} (name : Part) (step : S → List ℕ → Next S Said Rule)
-    (begin : Plan → S) (shape_for : Plan → Said → Shape) where
-  abbrev part_of : Plan → (number : ℕ) → List (List ℕ) → Result (Found Said) (At Rule)
+module _ {S Content : Type 0} (name : Part) (step : S → List ℕ → Next S Content Rule)
+    (begin : Plan → S) (shape_for : Plan → Content → Shape) where
+  abbrev part_of : Plan → (number : ℕ) → List (List ℕ) → Result (Found Content) (At Rule)
   part_of plan number lines =
       part_from (with_skips step rule.Form) rule.Form (begin plan) 0 number lines
 
-  abbrev with_said : Plan → Said → Script → Layered Said
+  abbrev with_said : Plan → Content → Script → Layered Content
   with_said plan said script = record { plan = plan; said = said; script = script }
 
-  abbrev script_after_part : Plan → Said → Reads (Layered Said)
+  abbrev script_after_part : Plan → Content → Reads (Layered Content)
   script_after_part plan said = read_script plan (shape_for plan said) (with_said plan said)
 
-  abbrev part_for : Plan → Reads (Layered Said)
+  abbrev part_for : Plan → Reads (Layered Content)
   part_for plan =
       then_next (of_part name) (script_after_part plan) (with_skips step rule.Form) rule.Form
       (begin plan)
 
-  said_by : (plan : Plan) (said : Said) (r : Result Script (At Rule))
+  said_by : (plan : Plan) (said : Content) (r : Result Script (At Rule))
       → layered.layered_with name part_of shape_for plan said r
       ≡ wrapped plan (shape_for plan said) (with_said plan said) r
   said_by plan said (Err at) = refl
   said_by plan said (Ok script) = refl
 
-  part_is : (plan : Plan) (number : ℕ) (r : Result (Found Said) (At Rule))
+  part_is : (plan : Plan) (number : ℕ) (r : Result (Found Content) (At Rule))
       → layered.behind_part name part_of shape_for plan number r
       ≡ behind (of_part name) (script_after_part plan) number r
   part_is plan number (Err at) = refl

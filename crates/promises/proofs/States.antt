@@ -24,7 +24,7 @@ use Rattle.adversary_script.proofs.LiesInRange.{starts_in_range, depth_of_node}
 use Rattle.layer_laws.specs.LayerRuns.{IsLayerState, IsLayerConfiguration, IsLayerTold}
 use Rattle.layer_laws.specs.LayerRuns.{IsLayerTable}
 use Rattle.layer_laws.proofs.NodesSteps.{each_below}
-use Rattle.round_runner.specs.Fits.{Fits}
+use Rattle.round_runner.specs.Fits.{ShapeFits}
 use Rattle.round_runner.specs.Played.{lies_at, heard_at}
 use Rattle.layer_laws.specs.PlayedScenes.{begun_kept, layer_step, new_state, state_behind, scene_at}
 use Rattle.round_runner.proofs.Fitting.{front_is, layer_fits}
@@ -42,7 +42,7 @@ all_by_place P heard n long holds =
 
 module _ {Kept : Type 0} (plan : Plan) (script : Script) (layer : Layer Kept)
     (keeps : KeepsRange layer) (is : IsReadFor plan layer script) where
-  fits : Fits script.shape (plan_meaning plan) (IsInRange plan) layer
+  fits : ShapeFits script.shape (plan_meaning plan) (IsInRange plan) layer
   fits = layer_fits plan layer script.shape is.accepted is.right.shape is.sound is.right.over
 
   further : IsShape (shape_with plan layer.values layer.extra)

@@ -15,12 +15,12 @@ use Rattle.round_runner.specs.Played.{played_at}
 use Rattle.slot_table.specs.declared.lines.SlotLine.{SlotLine}
 use Rattle.slot_table.specs.Tables.{holder_of}
 use Rattle.layer_laws.specs.Slots.{slot_length}
-use Rattle.consensus_layer.specs.AgreeSaid.{AgreeSaid}
+use Rattle.consensus_layer.specs.AgreeContent.{AgreeContent}
 use Rattle.consensus_layer.specs.Agreements.{decision}
 use Rattle.firing.specs.declared.requests.Request.{Request}
 use Rattle.firing.specs.Firings.{fires_of}
 use Rattle.replicated_log.specs.EntryLength.{entry_length}
-use Rattle.replicated_log.specs.LogSaid.{LogSaid}
+use Rattle.replicated_log.specs.LogContent.{LogContent}
 use Rattle.replicated_log.specs.Logs.{log_of}
 use Rattle.run_lines.specs.RunTexts.{bound_line, word_or_star, words_of_nodes, locked_line}
 use Rattle.run_lines.specs.RunTexts.{lock_of_era, era_line, lock_lines}
@@ -199,7 +199,7 @@ module _ (plan : Plan) (script : Script) where
       (nodes_are t (hold_word plan table (played_at plan script t)) mark
       (λ v. mark_is (option_eq nat_eq (holder_of table (output_shown plan script t v)) (Some v))))
 
-  decision_is : (said : AgreeSaid) (t : ℕ)
+  decision_is : (said : AgreeContent) (t : ℕ)
       → decision_line plan script said t ≡ ended (joined (decision_words plan script said t))
   decision_is said t =
       let end : ℕ = t + slot_length (plan_faults plan) in
@@ -222,7 +222,7 @@ module _ (plan : Plan) (script : Script) where
       (λ v. mark_is (fired v)))
 
   -- a line of the log has its owner after the number
-  entry_is : (said : LogSaid) (t : ℕ)
+  entry_is : (said : LogContent) (t : ℕ)
       → entry_line plan script said t ≡ ended (joined (entry_words plan script said t))
   entry_is said t =
       let end : ℕ = t + entry_length (plan_faults plan) in
@@ -272,7 +272,7 @@ module _ (plan : Plan) (script : Script) (config_at : ℕ → List State) (q : �
       (only_begun (λ t. begins_at plan script q t (config_at t)) line words is
       (shown_numbers plan script))
 
-pub decisions_are_written : (plan : Plan) (script : Script) (said : AgreeSaid)
+pub decisions_are_written : (plan : Plan) (script : Script) (said : AgreeContent)
     → DecisionsAreWritten plan script said
 decisions_are_written plan script said =
     slots_written plan script (λ c. (agree_scene plan script said c).states)
@@ -286,7 +286,7 @@ fires_are_written plan script requests =
     (slot_length (plan_faults plan)) (fire_line plan script requests)
     (fire_words plan script requests) (fire_is plan script requests)
 
-pub entries_are_written : (plan : Plan) (script : Script) (said : LogSaid)
+pub entries_are_written : (plan : Plan) (script : Script) (said : LogContent)
     → EntriesAreWritten plan script said
 entries_are_written plan script said =
     slots_written plan script (λ c. (log_scene plan script said c).states)

@@ -2,7 +2,7 @@
 use Rattle.std.specs.Prelude.{ℕ, ◌+◌, ◌≤◌, List, Option, IsSome}
 use Rattle.sync_types.specs.States.{State}
 use Rattle.construction.specs.Plans.{Plan, plan_bound}
-use Rattle.construction.specs.Runs.{IsBorne, IsLocked}
+use Rattle.construction.specs.Runs.{IsToleratedBy, IsLocked}
 use Rattle.plan_machine.specs.PlanMachines.{machine_of_plan}
 use Rattle.plan_machine.specs.NodeRuns.{IsCorrect, SomeIsCorrect}
 use Rattle.plan_machine.specs.Laws.{RunThrough, CountThrough, StayLockedThrough}
@@ -59,7 +59,7 @@ module _ (plan : Plan) (faulty : List ℕ) (calls : ℕ → Call) (begins : ℕ 
 -- Whichever nodes are faulty that the plan tolerates, if one is left that is correct, connected
 -- calls keep the promise.
 abbrev pub ConnectedCallsCount : Type 0
-ConnectedCallsCount = (plan : Plan) (faulty : List ℕ) → IsBorne plan faulty
+ConnectedCallsCount = (plan : Plan) (faulty : List ℕ) → IsToleratedBy plan faulty
     → SomeIsCorrect plan faulty → (calls : ℕ → Call) (begins : ℕ → ℕ) (rounds : ℕ)
     → CallsConnect plan faulty calls begins rounds
     → NodesKeepPromise plan faulty calls begins rounds
@@ -67,7 +67,7 @@ ConnectedCallsCount = (plan : Plan) (faulty : List ℕ) → IsBorne plan faulty
 -- From any locked configuration on, calls stay locked and count even if cells are lost, as long as
 -- each correct node is given in each round the cells of N - F correct nodes, its own among them.
 abbrev pub HeardCallsStayLocked : Type 0
-HeardCallsStayLocked = (plan : Plan) (faulty : List ℕ) → IsBorne plan faulty
+HeardCallsStayLocked = (plan : Plan) (faulty : List ℕ) → IsToleratedBy plan faulty
     → SomeIsCorrect plan faulty → (calls : ℕ → Call) (begins : ℕ → ℕ) (rounds : ℕ)
     → CallsAreHeard plan faulty calls begins rounds → (from : ℕ) → from ≤ rounds
     → IsLocked plan faulty (states_written plan calls begins from)

@@ -2,7 +2,8 @@
 use Rattle.std.specs.Prelude.{◌≡◌, ℕ, ◌+◌, ◌%◌, ◌<◌, ◌≤◌, List, length, Some, false, IfOk}
 use Rattle.sync_types.specs.States.{State}
 use Rattle.construction.specs.Plans.{Plan, plan_nodes, plan_bound, plan_modulus, plan_depth}
-use Rattle.construction.specs.Runs.{is_in, configuration, IsConfiguration, IsTable, Run, IsBorne}
+use Rattle.construction.specs.Runs.{is_in, configuration, IsConfiguration, IsTable, Run}
+use Rattle.construction.specs.Runs.{IsToleratedBy}
 use Rattle.construction.specs.Runs.{Settles, IsLocked}
 use Rattle.plan_numbers.specs.Premises.{IsAccepted}
 use Rattle.plan_laws.specs.Laws.{HasOneNext, StaysLockedFrom}
@@ -32,11 +33,11 @@ pub record IsSelfStabilising (plan : Plan) : Type 0 where
   pub next : (faulty : List ℕ) (old : List State) (lies : List (List State))
       → IsConfiguration plan old → IsTable plan lies → HasOneNext plan faulty old lies
   -- if a run reaches the bound, the configuration there is locked
-  pub locks : (faulty : List ℕ) (run : List (List State)) → IsBorne plan faulty
+  pub locks : (faulty : List ℕ) (run : List (List State)) → IsToleratedBy plan faulty
       → Run plan faulty run → plan_bound plan < length run
       → IsLocked plan faulty (configuration run (plan_bound plan))
   -- from any locked configuration on it stays locked, and counts
-  pub stays : (faulty : List ℕ) (run : List (List State)) → IsBorne plan faulty
+  pub stays : (faulty : List ℕ) (run : List (List State)) → IsToleratedBy plan faulty
       → Run plan faulty run → (from : ℕ) → from < length run
       → IsLocked plan faulty (configuration run from) → StaysLockedFrom plan faulty run from
   -- its text of another version is that of the same counter, and of the same machine
@@ -66,7 +67,7 @@ pub record RowsCountFrom (plan : Plan) (script : Script) (j from : ℕ) : Type 0
 -- first locked configuration, at the bound or before if the era reaches the bound. From W to the
 -- era's end each configuration is locked, and the rows count.
 pub record EraKeepsPromise (plan : Plan) (script : Script) (j : ℕ) : Type 0 where
-  pub borne : IsBorne plan (faulty_of_era script j)
+  pub borne : IsToleratedBy plan (faulty_of_era script j)
   pub run : EraIsRun plan script j
   pub rows : RowsCountFrom plan script j (first_of_era script j + plan_bound plan)
   pub locked : IsFirstLocked plan script (played_at plan script) j script.rounds

@@ -7,12 +7,12 @@ use Rattle.adversary_script.specs.Eras.{era_of, first_of_era, faulty_at}
 use Rattle.round_runner.specs.Played.{played_at}
 use Rattle.layer_laws.specs.Slots.{slot_length}
 use Rattle.slot_table.specs.declared.lines.SlotLine.{SlotLine}
-use Rattle.consensus_layer.specs.AgreeSaid.{AgreeSaid}
+use Rattle.consensus_layer.specs.AgreeContent.{AgreeContent}
 use Rattle.consensus_layer.specs.Agreements.{agree_layer}
 use Rattle.firing.specs.declared.requests.Request.{Request}
 use Rattle.firing.specs.Firings.{fire_layer, unfired}
 use Rattle.replicated_log.specs.EntryLength.{entry_length}
-use Rattle.replicated_log.specs.LogSaid.{LogSaid}
+use Rattle.replicated_log.specs.LogContent.{LogContent}
 use Rattle.replicated_log.specs.Logs.{log_layer}
 use Rattle.run_lines.specs.SlotTexts.{begins_at}
 use Rattle.run_lines.specs.HoldTexts.{hold_word}
@@ -50,7 +50,7 @@ HoldsAreKept = (input : List ℕ)
 
 -- What is played is the script's, with each decision 0 at first. There is a line of each slot that
 -- counts and begins in a configuration that is shown, and it has one decision.
-pub record KeepsDecisions (plan : Plan) (script : Script) (said : AgreeSaid) : Type 0 where
+pub record KeepsDecisions (plan : Plan) (script : Script) (said : AgreeContent) : Type 0 where
   pub played : PlaysScript plan script (agree_layer plan said.values said.inputs)
       (replicate (plan_nodes plan) 0)
   pub written : DecisionsAreWritten plan script said
@@ -87,7 +87,7 @@ FiresAreKept = (input : List ℕ)
 -- What is played is the script's, with all logs empty at first. There is a line of each slot that
 -- counts and begins in a configuration that is shown, and it has one value, which its owner
 -- commands if it is correct.
-pub record KeepsEntries (plan : Plan) (script : Script) (said : LogSaid) : Type 0 where
+pub record KeepsEntries (plan : Plan) (script : Script) (said : LogContent) : Type 0 where
   pub played : PlaysScript plan script (log_layer plan said) (replicate (plan_nodes plan) [])
   pub written : EntriesAreWritten plan script said
   pub slots : SlotsAreExact plan script (λ c. (log_scene plan script said c).states)

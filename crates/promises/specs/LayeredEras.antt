@@ -2,7 +2,7 @@
 use Rattle.std.specs.Prelude.{ℕ, ◌+◌, ◌<◌, ◌≤◌, List, length}
 use Rattle.sync_types.specs.States.{State}
 use Rattle.construction.specs.Plans.{Plan, plan_nodes}
-use Rattle.construction.specs.Runs.{IsBorne}
+use Rattle.construction.specs.Runs.{IsToleratedBy}
 use Rattle.plan_numbers.specs.Premises.{IsAccepted}
 use Rattle.plan_laws.specs.PlanMeaning.{plan_meaning}
 use Rattle.state_codec.specs.Shapes.{IsShape}
@@ -12,7 +12,7 @@ use Rattle.adversary_script.specs.Eras.{first_of_era, end_of_era, faulty_of_era}
 use Rattle.layer_laws.specs.Scenes.{Scene}
 use Rattle.layer_laws.specs.LayerRuns.{LayerRun, LayerRound}
 use Rattle.layer_laws.specs.Played.{IsKeptFor}
-use Rattle.round_runner.specs.Runners.{IsFor}
+use Rattle.round_runner.specs.Runners.{IsPlayableOn}
 use Rattle.layer_lines.specs.PlayedEras as eras
 use Rattle.layer_lines.specs.PlayedScripts as any
 use Rattle.promises.specs.SaidLines.{SaysLines}
@@ -21,7 +21,7 @@ use Rattle.promises.specs.SaidLines.{SaysLines}
 pub record IsReadFor {Kept : Type 0} (plan : Plan) (layer : Layer Kept) (script : Script)
     : Type 0 where
   pub accepted : IsAccepted plan
-  pub right : IsFor plan layer script
+  pub right : IsPlayableOn plan layer script
   pub whole : IsScript script
   pub sound : IsShape script.shape
 
@@ -52,7 +52,7 @@ module _ {Kept : Type 0} (plan : Plan) (script : Script) (layer : Layer Kept)
   pub record PlaysScript : Type 0 where
     pub says : SaysLines script
     pub plays : any.PlaysScript (plan_meaning plan) script layer began
-    pub borne : (j : ℕ) → j ≤ length script.eras → IsBorne plan (faulty_of_era script j)
+    pub borne : (j : ℕ) → j ≤ length script.eras → IsToleratedBy plan (faulty_of_era script j)
     pub eras : (j : ℕ) → j ≤ length script.eras → EraIsLayerRun j
 
 -- What is played of a script with a layer whose step keeps values in range is the script's.

@@ -10,8 +10,8 @@ use Rattle.outcomes.specs.Layered.{Layered, slotted_of, agreed_of, firing_of, lo
 use Rattle.promises.specs.ScriptInputs.{layered_text}
 
 -- the text of what was read is read as the same
-abbrev pub IsReadAgain : {Said : Type 0} → (read : List ℕ → Result (Layered Said) Refusal)
-    → (text : Said → List ℕ) → Layered Said → Type 0
+abbrev pub IsReadAgain : {Content : Type 0} → (read : List ℕ → Result (Layered Content) Refusal)
+    → (text : Content → List ℕ) → Layered Content → Type 0
 IsReadAgain read text found =
     read (layered_text found.plan (text found.said) found.script) ≡ Ok found
 

@@ -5,7 +5,7 @@ use Rattle.std.specs.Prelude.{[], slice_index_or}
 use Rattle.sync_types.specs.States.{State}
 use Rattle.construction.specs.Plans.{Plan, plan_nodes}
 use Rattle.construction.specs.Steps.{state_of, step_of}
-use Rattle.construction.specs.Runs.{heard_by, IsBorne}
+use Rattle.construction.specs.Runs.{heard_by, IsToleratedBy}
 use Rattle.adversary_script.specs.Scripts.{Script}
 use Rattle.adversary_script.specs.Eras.{faulty_of_era, faulty_at}
 use Rattle.adversary_script.specs.Lookup.{hit_at}
@@ -37,7 +37,7 @@ pub record PlaysPlain (plan : Plan) (script : Script) : Type 0 where
   pub told : (t u v : ℕ) → t < script.rounds → u < plan_nodes plan → v < plan_nodes plan
       → state_of (slice_index_or (lies_played plan script t) u []) v
       ≡ lie_of script t u v (played_at plan script t)
-  pub borne : (j : ℕ) → j ≤ length script.eras → IsBorne plan (faulty_of_era script j)
+  pub borne : (j : ℕ) → j ≤ length script.eras → IsToleratedBy plan (faulty_of_era script j)
   pub eras : (j : ℕ) → j ≤ length script.eras → EraIsRun plan script j
 
 -- What is played of a script that was read for an accepted plan is the script's.

@@ -51,8 +51,8 @@ ScriptPrinted text Promise =
     Printed scripted_of (λ s. text s.plan s.script) (λ s. Promise s.plan s.script)
 
 -- of a plan, what is said of a layer, and a script
-abbrev pub LayerPrinted : {Said : Type 0} (read : List ℕ → Result (Layered Said) Refusal)
-    → (text : Plan → Script → Said → List ℕ) (Promise : Plan → Script → Said → Type 0)
+abbrev pub LayerPrinted : {Content : Type 0} (read : List ℕ → Result (Layered Content) Refusal)
+    → (text : Plan → Script → Content → List ℕ) (Promise : Plan → Script → Content → Type 0)
     → (input : List ℕ) (old new : SinkState) → Type 0
 LayerPrinted read text Promise =
     Printed read (λ s. text s.plan s.script s.said) (λ s. Promise s.plan s.script s.said)

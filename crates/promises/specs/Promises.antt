@@ -6,14 +6,14 @@ use Rattle.adversary_script.specs.Scripts.{Script}
 use Rattle.layer_laws.specs.Slots.{slot_length}
 use Rattle.layer_lines.specs.LinePromises as any
 use Rattle.promises.specs.LayeredEras.{IsReadFor}
-use Rattle.consensus_layer.specs.AgreeSaid.{AgreeSaid}
+use Rattle.consensus_layer.specs.AgreeContent.{AgreeContent}
 use Rattle.consensus_layer.specs.AgreePart as agree
 use Rattle.consensus_layer.specs.Agreements.{agree_layer}
 use Rattle.firing.specs.declared.requests.Request.{Request}
 use Rattle.firing.specs.FirePart.{AreFor}
 use Rattle.firing.specs.Firings.{fire_layer}
 use Rattle.replicated_log.specs.EntryLength.{entry_length}
-use Rattle.replicated_log.specs.LogSaid.{LogSaid}
+use Rattle.replicated_log.specs.LogContent.{LogContent}
 use Rattle.replicated_log.specs.LogPart as log
 use Rattle.replicated_log.specs.Logs.{log_layer}
 use Rattle.run_lines.specs.SlotTexts.{begins_at}
@@ -24,11 +24,11 @@ use Rattle.run_lines.specs.EntryTexts.{log_scene}
 -- ---- consensus
 
 -- the line of a slot that begins in configuration t has one decision
-abbrev pub LineDecides : Plan → Script → AgreeSaid → (t : ℕ) → Type 0
+abbrev pub LineDecides : Plan → Script → AgreeContent → (t : ℕ) → Type 0
 LineDecides plan = any.LineDecides (plan_meaning plan)
 
 abbrev pub LinesDecide : Type 0
-LinesDecide = (plan : Plan) (script : Script) (said : AgreeSaid) → agree.IsFor plan said
+LinesDecide = (plan : Plan) (script : Script) (said : AgreeContent) → agree.IsAgreeForPlan plan said
     → IsReadFor plan (agree_layer plan said.values said.inputs) script
     → (t : ℕ)
     → begins_at plan script (slot_of plan script said) t (agree_scene plan script said t).states
@@ -52,11 +52,11 @@ LinesFireTogether = (plan : Plan) (script : Script) (requests : List Request)
 -- ---- the log
 
 -- the line of a slot that begins in configuration t has the value of its entry
-abbrev pub LinePuts : Plan → Script → LogSaid → (t : ℕ) → Type 0
+abbrev pub LinePuts : Plan → Script → LogContent → (t : ℕ) → Type 0
 LinePuts plan = any.LinePuts (plan_meaning plan)
 
 abbrev pub LinesPutOne : Type 0
-LinesPutOne = (plan : Plan) (script : Script) (said : LogSaid) → log.IsFor plan said
+LinesPutOne = (plan : Plan) (script : Script) (said : LogContent) → log.IsLogForPlan plan said
     → IsReadFor plan (log_layer plan said) script
     → (t : ℕ)
     → begins_at plan script (entry_length (plan_faults plan)) t

@@ -2,7 +2,7 @@
 use Rattle.std.specs.Prelude.{◌≡◌, ℕ, ◌+◌, ◌≤◌, List}
 use Rattle.construction.specs.Plans.{Plan}
 use Rattle.construction.specs.Steps.{state_of}
-use Rattle.construction.specs.Runs.{IsBorne, IsLocked}
+use Rattle.construction.specs.Runs.{IsToleratedBy, IsLocked}
 use Rattle.plan_machine.specs.NodeRuns.{IsCorrect, SomeIsCorrect}
 use Rattle.plan_machine.specs.Laws.{StayLockedThrough}
 pub use Rattle.node_words.specs.Restarts.{Restart, calls_after, begins_after}
@@ -33,7 +33,7 @@ pub record RestartIsKept (plan : Plan) (faulty meanwhile : List ℕ) (calls : �
 -- written in its place, so that this is its first one, and the configuration then was locked.
 abbrev pub RestartedNodesCount : Type 0
 RestartedNodesCount = (plan : Plan) (faulty meanwhile : List ℕ)
-    → IsBorne plan faulty → IsBorne plan meanwhile → (restart : Restart)
+    → IsToleratedBy plan faulty → IsToleratedBy plan meanwhile → (restart : Restart)
     → AreFaultyMeanwhile restart.node faulty meanwhile → SomeIsCorrect plan meanwhile
     → (calls : ℕ → Call) (begins : ℕ → ℕ) (rounds : ℕ)
     → CallsConnect plan meanwhile calls begins (restart.after + rounds)

@@ -10,13 +10,13 @@ use Rattle.adversary_script.specs.Writable.{IsWritable}
 use Rattle.slot_table.specs.declared.lines.SlotLine.{SlotLine}
 use Rattle.slot_table.specs.SlotPart as slot_part
 use Rattle.slot_table.specs.SlotTexts.{slots_text}
-use Rattle.consensus_layer.specs.AgreeSaid.{AgreeSaid}
+use Rattle.consensus_layer.specs.AgreeContent.{AgreeContent}
 use Rattle.consensus_layer.specs.AgreePart as agree_part
 use Rattle.consensus_layer.specs.AgreeTexts.{agree_text}
 use Rattle.firing.specs.declared.requests.Request.{Request}
 use Rattle.firing.specs.FirePart as fire_part
 use Rattle.firing.specs.RequestTexts.{requests_text, HasRounds}
-use Rattle.replicated_log.specs.LogSaid.{LogSaid}
+use Rattle.replicated_log.specs.LogContent.{LogContent}
 use Rattle.replicated_log.specs.LogPart as log_part
 use Rattle.replicated_log.specs.LogTexts.{log_text}
 use Rattle.outcomes.specs.Inputs.{scripted_of}
@@ -45,7 +45,8 @@ pub record ScriptInputsAreRead : Type 0 where
       → (script : Script) → IsWritable plan (slots_shape plan table) script
       → slotted_of (layered_text plan (slots_text table) script)
       ≡ Ok (record { plan = plan; said = table; script = script })
-  pub consensus : (plan : Plan) → IsAccepted plan → (said : AgreeSaid) → agree_part.IsFor plan said
+  pub consensus : (plan : Plan) → IsAccepted plan → (said : AgreeContent)
+      → agree_part.IsAgreeForPlan plan said
       → (script : Script) → IsWritable plan (agree_shape plan said) script
       → agreed_of (layered_text plan (agree_text said) script)
       ≡ Ok (record { plan = plan; said = said; script = script })
@@ -54,7 +55,7 @@ pub record ScriptInputsAreRead : Type 0 where
       → (script : Script) → IsWritable plan (fire_shape plan requests) script
       → firing_of (layered_text plan (requests_text requests) script)
       ≡ Ok (record { plan = plan; said = requests; script = script })
-  pub log : (plan : Plan) → IsAccepted plan → (said : LogSaid) → log_part.IsFor plan said
+  pub log : (plan : Plan) → IsAccepted plan → (said : LogContent) → log_part.IsLogForPlan plan said
       → All (λ own. length own ≤ 16) said.commands
       → (script : Script) → IsWritable plan (log_shape plan said) script
       → logging_of (layered_text plan (log_text said) script)

@@ -15,13 +15,13 @@ use Rattle.adversary_script.specs.Eras.{first_of_era, faulty_at}
 use Rattle.round_runner.specs.Played.{played_at}
 use Rattle.slot_table.specs.declared.lines.SlotLine.{SlotLine}
 use Rattle.slot_table.specs.Tables.{holder_of}
-use Rattle.consensus_layer.specs.AgreeSaid.{AgreeSaid}
+use Rattle.consensus_layer.specs.AgreeContent.{AgreeContent}
 use Rattle.consensus_layer.specs.Agreements.{decision}
 use Rattle.firing.specs.declared.requests.Request.{Request}
 use Rattle.firing.specs.Firings.{fires_of}
 use Rattle.layer_laws.specs.Slots.{slot_length}
 use Rattle.replicated_log.specs.EntryLength.{entry_length}
-use Rattle.replicated_log.specs.LogSaid.{LogSaid}
+use Rattle.replicated_log.specs.LogContent.{LogContent}
 use Rattle.replicated_log.specs.Logs.{log_of}
 use Rattle.run_lines.specs.RunTexts.{lock_of_era}
 use Rattle.run_lines.specs.RowTexts.{run_text}
@@ -89,7 +89,7 @@ module _ (plan : Plan) (script : Script) where
 
   -- the lines of `consensus`, `fire` and `log`: one of each slot that counts and begins in a
   -- configuration that is shown, with what the nodes have at its end
-  abbrev pub decision_words : AgreeSaid → (t : ℕ) → List (List ℕ)
+  abbrev pub decision_words : AgreeContent → (t : ℕ) → List (List ℕ)
   decision_words said t =
       let end = t + slot_length (plan_faults plan) in
       codes "slot" ∷ decimal t
@@ -102,7 +102,7 @@ module _ (plan : Plan) (script : Script) where
       ∷ starred end (λ v. if fires_of (fire_scene plan script requests end).kept v
       then codes "1" else codes ".")
 
-  abbrev pub entry_words : LogSaid → (t : ℕ) → List (List ℕ)
+  abbrev pub entry_words : LogContent → (t : ℕ) → List (List ℕ)
   entry_words said t =
       let end = t + entry_length (plan_faults plan) in
       codes "entry" ∷ decimal t ∷ codes "owner" ∷ decimal (slot_owner plan script said t)
@@ -123,7 +123,7 @@ HoldsAreWritten plan script table =
     (map (hold_words plan script table) (shown_numbers plan script)))
 
 -- and those of `consensus`, `fire` and `log`
-abbrev pub DecisionsAreWritten : Plan → Script → AgreeSaid → Type 0
+abbrev pub DecisionsAreWritten : Plan → Script → AgreeContent → Type 0
 DecisionsAreWritten plan script said =
     let config_at : ℕ → List State = λ c. (agree_scene plan script said c).states in
     decision_text plan script said
@@ -139,7 +139,7 @@ FiresAreWritten plan script requests =
     (map (fire_words plan script requests)
     (slots_shown plan script config_at (slot_length (plan_faults plan)))))
 
-abbrev pub EntriesAreWritten : Plan → Script → LogSaid → Type 0
+abbrev pub EntriesAreWritten : Plan → Script → LogContent → Type 0
 EntriesAreWritten plan script said =
     let config_at : ℕ → List State = λ c. (log_scene plan script said c).states in
     log_text plan script said
@@ -152,9 +152,9 @@ pub record TextsAreWritten : Type 0 where
   pub rows : (plan : Plan) (script : Script) → RowsAreWritten plan script
   pub holds : (plan : Plan) (script : Script) (table : List SlotLine)
       → HoldsAreWritten plan script table
-  pub decisions : (plan : Plan) (script : Script) (said : AgreeSaid)
+  pub decisions : (plan : Plan) (script : Script) (said : AgreeContent)
       → DecisionsAreWritten plan script said
   pub fires : (plan : Plan) (script : Script) (requests : List Request)
       → FiresAreWritten plan script requests
-  pub entries : (plan : Plan) (script : Script) (said : LogSaid)
+  pub entries : (plan : Plan) (script : Script) (said : LogContent)
       → EntriesAreWritten plan script said

@@ -17,7 +17,7 @@ use Rattle.pulse_plan.specs.Plans.{PulseNumbers, IsAccepted, tree_of}
 use Rattle.pulse_plan.specs.Laws.{machine_in}
 use Rattle.pulse_plan.proofs.Sound.{nodes_are, accepted_are_sound}
 use Rattle.pulse_plan.specs.MachineGroups.{CanHear, IsDeep}
-use Rattle.pulse_plan.specs.Kept.{IsKept}
+use Rattle.pulse_plan.specs.Kept.{IsValidPulseMachine}
 
 -- one node has no register that shows locks, and each other tree has the first one
 pub lock_of_none : (f spares : ℕ) → f ≡ 0 → None ≡ lock_of (halving_of f spares)
@@ -65,7 +65,7 @@ can_hear plan accepted heard is = record {
       omega (arith, deep));
 }
 
-module _ (plan : PulseNumbers) (fields : List Fields) (kept : IsKept plan fields) where
+module _ (plan : PulseNumbers) (fields : List Fields) (kept : IsValidPulseMachine plan fields) where
   pub long_fields : length fields ≡ plan.nodes
   long_fields = ap length kept.each
       ∙ length-map-range_with_len (all_fields (tree_of plan) plan.modulus) 0 plan.nodes

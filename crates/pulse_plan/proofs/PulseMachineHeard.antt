@@ -10,7 +10,7 @@ use Rattle.pulse_plan.specs.LevelStates.{LevelState, sees, says_left, says_right
 use Rattle.pulse_plan.specs.Halvings.{halving_of}
 use Rattle.pulse_plan.specs.Steps.{shown_in}
 use Rattle.pulse_plan.specs.Groups.{PulseGroup, left_of, right_of}
-use Rattle.pulse_plan.specs.declared.level_states.Said.{Said}
+use Rattle.pulse_plan.specs.declared.level_states.HeardPulses.{HeardPulses}
 use Rattle.pulse_plan.specs.MachineGroups.{below, section}
 use Rattle.pulse_plan.specs.PulseMachineHearing.{values_in, outputs_in, level_states_in}
 use Rattle.pulse_plan.specs.PulseMachineHearing.{level_state_in}
@@ -75,7 +75,7 @@ values_are group heard =
     (λ s. ap (λ (q : Reg). q.a) (first_below group.register s)) all)
 
 -- what was counted of the group
-pub record IsSaid (group : PulseGroup) (heard : List State) (said : Said) : Type 0 where
+pub record IsSaid (group : PulseGroup) (heard : List State) (said : HeardPulses) : Type 0 where
   pub sees_left : said.sees_left ≡ sees (left_of group).nodes (left_of group).faults
       (outputs_in (left_of group) heard)
   pub says_left : said.says_left ≡ says_left (level_states_in group heard)
@@ -83,7 +83,7 @@ pub record IsSaid (group : PulseGroup) (heard : List State) (said : Said) : Type
       (outputs_in (right_of group) heard)
   pub says_right : said.says_right ≡ says_right (level_states_in group heard)
 
-abbrev said_of : PulseGroup → List State → Said
+abbrev said_of : PulseGroup → List State → HeardPulses
 said_of group heard = record {
   sees_left = sees (left_of group).nodes (left_of group).faults (outputs_in (left_of group) heard);
   says_left = says_left (level_states_in group heard);
@@ -92,7 +92,7 @@ said_of group heard = record {
   says_right = says_right (level_states_in group heard);
 }
 
-said_is : (group : PulseGroup) (heard : List State) (said : Said) → IsSaid group heard said
+said_is : (group : PulseGroup) (heard : List State) (said : HeardPulses) → IsSaid group heard said
     → said ≡ said_of group heard
 said_is group heard said is =
     ap₂ (λ a b. record {
@@ -106,7 +106,7 @@ said_is group heard said is =
 
 -- the level state that was counted is the one by all that is heard
 pub level_state_is : (group : PulseGroup) (v : ℕ) (heard : List State) (own : LevelState)
-    (register : Reg) (said : Said)
+    (register : Reg) (said : HeardPulses)
     → 0 < group.faults → own ≡ level_state_in group (state_of heard v)
     → register
     ≡ instructed group.nodes group.faults (up group.modulus) (own.instruction % 3) own.register

@@ -12,7 +12,7 @@ use Rattle.pulse_plan.specs.Level.{OneHalfIsSound, PulsesSettle, LockedStaysLock
 use Rattle.pulse_plan.specs.Halvings.{Halving, One, Split, halving_nodes, halving_faults}
 use Rattle.pulse_plan.specs.Halvings.{halving_bound, halves_of}
 use Rattle.pulse_plan.specs.Registers.{level_state_of, with_level_state}
-use Rattle.machines.specs.Machines.{Run, CountsFrom, IsBorne}
+use Rattle.machines.specs.Machines.{Run, CountsFrom, IsToleratedBy}
 use Rattle.pulse_plan.specs.Runs.{machine_of}
 use Rattle.pulse_plan.proofs.Numbers.{three_faults, faults_of_halving, nodes_of_halving}
 use Rattle.pulse_plan.proofs.Numbers.{bound_of_halving}
@@ -72,7 +72,7 @@ counts_over tree modulus faulty run counts = record {
 
 -- a locked configuration has one
 one_stays : (modulus : ℕ) → 2 ≤ modulus → (faulty : List ℕ) (run : List (List State)) (from : ℕ)
-    → IsBorne (machine_of One modulus) faulty → Run (machine_of One modulus) faulty run
+    → IsToleratedBy (machine_of One modulus) faulty → Run (machine_of One modulus) faulty run
     → StaysLockedFrom One modulus faulty run from
 one_stays modulus two faulty run from borne is =
     let counts = one_counts modulus (is_in faulty) (length run - 1)

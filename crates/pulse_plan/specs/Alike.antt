@@ -3,7 +3,7 @@ use Rattle.std.specs.Prelude.{ℕ, ◌<◌, ◌↔◌, List, length}
 use Rattle.sync_types.specs.States.{State}
 use Rattle.construction.specs.Runs.{configuration}
 use Rattle.machines.specs.Machines as machines
-use Rattle.machines.specs.Machines.{IsBorne, Run}
+use Rattle.machines.specs.Machines.{IsToleratedBy, Run}
 use Rattle.machines.specs.Laws as laws
 use Rattle.pulse_plan.specs.Halvings.{Halving, halving_bound}
 use Rattle.pulse_plan.specs.Runs as trees
@@ -18,7 +18,7 @@ pub record AreAlike (tree : Halving) (modulus : ℕ) : Type 0 where
   pub locks : (faulty : List ℕ) (config : List State) → trees.IsLocked tree faulty config
       ↔ machines.IsLocked (machine_of tree modulus) faulty config
   pub at_bound : ((faulty : List ℕ) (run : List (List State))
-      → IsBorne (machine_of tree modulus) faulty → Run (machine_of tree modulus) faulty run
+      → IsToleratedBy (machine_of tree modulus) faulty → Run (machine_of tree modulus) faulty run
       → halving_bound tree < length run
       → trees.IsLocked tree faulty (configuration run (halving_bound tree)))
       ↔ laws.LocksAtBound (machine_of tree modulus)

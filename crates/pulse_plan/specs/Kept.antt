@@ -5,6 +5,6 @@ use Rattle.state_codec.specs.Shapes.{Fields}
 use Rattle.pulse_plan.specs.Runs.{all_fields}
 use Rattle.pulse_plan.specs.Plans.{PulseNumbers, IsAccepted, tree_of}
 
-pub record IsKept (plan : PulseNumbers) (fields : List Fields) : Type 0 where
+pub record IsValidPulseMachine (plan : PulseNumbers) (fields : List Fields) : Type 0 where
   pub accepted : IsAccepted plan
   pub each : fields ≡ map (all_fields (tree_of plan) plan.modulus) (range_with_len 0 plan.nodes)

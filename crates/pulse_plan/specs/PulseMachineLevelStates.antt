@@ -6,7 +6,7 @@ use Rattle.pulse_plan.specs.Halves.{left_period}
 use Rattle.pulse_plan.specs.LevelStates.{LevelState, echoed, backed, busy, older, begun}
 use Rattle.pulse_plan.specs.LevelStates.{next_instruction}
 use Rattle.pulse_plan.specs.Registers.{registers_of}
-use Rattle.pulse_plan.specs.declared.level_states.Said.{Said}
+use Rattle.pulse_plan.specs.declared.level_states.HeardPulses.{HeardPulses}
 
 -- a state with a level state written at a register
 abbrev pub with_level_state_at : (register f : ℕ) → LevelState → State → State
@@ -26,7 +26,8 @@ right_fires nodes f own says = backed nodes f says && not (busy f own)
 
 -- The level state after a round, by the new register and by what was counted. In a group that
 -- tolerates f faults.
-abbrev pub level_state_counted : (nodes f : ℕ) (own : LevelState) (register : Reg) (said : Said)
+abbrev pub level_state_counted : (nodes f : ℕ) (own : LevelState) (register : Reg)
+    (said : HeardPulses)
     → LevelState
 level_state_counted nodes f own register said = record {
   register = register;

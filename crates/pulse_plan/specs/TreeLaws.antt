@@ -10,7 +10,7 @@ use Rattle.pulse_plan.specs.Registers.{level_state_of, inner, with_level_state}
 use Rattle.pulse_plan.specs.Registers.{IsLevelState, HasLevelState}
 use Rattle.pulse_plan.specs.Steps.{halving_depth, step_of}
 use Rattle.machines.specs.Machines.{IsConfiguration, IsTable, Round, Run, CountsFrom}
-use Rattle.machines.specs.Machines.{IsBorne, Settles}
+use Rattle.machines.specs.Machines.{IsToleratedBy, Settles}
 use Rattle.machines.specs.Laws.{IsSound}
 use Rattle.pulse_plan.specs.Runs.{IsState, machine_of, IsLocked}
 
@@ -60,7 +60,7 @@ EveryHalvingSettles =
 abbrev pub LocksAtBound : Type 0
 LocksAtBound =
     (tree : Halving) (modulus : ℕ) → 2 ≤ modulus → (faulty : List ℕ) (run : List (List State))
-    → IsBorne (machine_of tree modulus) faulty → Run (machine_of tree modulus) faulty run
+    → IsToleratedBy (machine_of tree modulus) faulty → Run (machine_of tree modulus) faulty run
     → halving_bound tree < length run
     → IsLocked tree faulty (configuration run (halving_bound tree))
 
@@ -74,7 +74,7 @@ pub record StaysLockedFrom (tree : Halving) (modulus : ℕ) (faulty : List ℕ)
 abbrev pub LockedRunsCount : Type 0
 LockedRunsCount =
     (tree : Halving) (modulus : ℕ) → 2 ≤ modulus → (faulty : List ℕ) (run : List (List State))
-    → IsBorne (machine_of tree modulus) faulty → Run (machine_of tree modulus) faulty run
+    → IsToleratedBy (machine_of tree modulus) faulty → Run (machine_of tree modulus) faulty run
     → (from : ℕ) → from < length run → IsLocked tree faulty (configuration run from)
     → StaysLockedFrom tree modulus faulty run from
 

@@ -6,7 +6,7 @@ ghost use Rattle.pulse_plan.specs.PulseMachineHearing.{outputs_in, level_state_h
 use crate::Group;
 use crate::counts::{ZeroNumber, ZeroValue, count, count_group};
 use crate::kings::obey;
-use crate::level_states::{LevelState, Said};
+use crate::level_states::{HeardPulses, LevelState};
 use counter_core::Heard;
 use majority_votes::Tally;
 
@@ -63,7 +63,7 @@ pub(crate) fn new_level_state(
         heard,
         tally,
     );
-    let said = Said {
+    let said = HeardPulses {
         sees_left: sees(&group.left(), heard),
         says_left: counts.saw_left,
         sees_right: sees(&group.right(), heard),

@@ -2,7 +2,8 @@ ghost use Rattle.std.specs.Prelude.{◌≡◌, ◌+◌, ◌≤◌, if◌then◌e
 ghost use Rattle.pulse_plan.specs.LevelStates.{busy, older};
 ghost use Rattle.pulse_plan.specs.Registers.{level_state_of, value_of, number_of};
 ghost use Rattle.pulse_plan.specs.MachineGroups.{below};
-ghost use Rattle.pulse_plan.specs.PulseMachineLevelStates.{with_level_state_at, level_state_counted};
+ghost use Rattle.pulse_plan.specs.PulseMachineLevelStates.{with_level_state_at};
+ghost use Rattle.pulse_plan.specs.PulseMachineLevelStates.{level_state_counted};
 
 use crate::Group;
 use std::marker::Model;
@@ -51,7 +52,7 @@ impl Model for LevelState {
 
 /// What was counted of the two halves and of what the group's nodes say that they saw.
 #[derive(Clone, Copy, Debug)]
-pub(crate) struct Said {
+pub(crate) struct HeardPulses {
     /// Whether enough nodes of the left half show 0.
     pub sees_left: bool,
     /// How many nodes say that they saw the left half's pulse.
@@ -156,7 +157,7 @@ impl LevelState {
     }
 
     /// The level state after a round, by the new register and by what was counted.
-    pub(crate) fn after(&self, register: Reg, said: &Said, group: &Group) -> LevelState
+    pub(crate) fn after(&self, register: Reg, said: &HeardPulses, group: &Group) -> LevelState
         ensures { result ≡ level_state_counted group.now.nodes group.now.faults self.now register
             said.now }
     {

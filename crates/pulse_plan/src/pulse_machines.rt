@@ -24,13 +24,13 @@ pub struct PulseMachine {
 
 impl Model for PulseMachine {
     ghost use Rattle.pulse_plan.specs.Plans.{PulseNumbers};
-    ghost use Rattle.pulse_plan.specs.Kept.{IsKept};
+    ghost use Rattle.pulse_plan.specs.Kept.{IsValidPulseMachine};
 
     ghost Value = { PulseNumbers };
 
     ghost view = { λ m. m.plan };
 
-    ghost invariant = { λ m. IsKept m.plan m.fields.items };
+    ghost invariant = { λ m. IsValidPulseMachine m.plan m.fields.items };
 }
 
 impl PulseMachine {

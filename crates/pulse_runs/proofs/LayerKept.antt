@@ -3,7 +3,7 @@ use Rattle.std.proofs.Common.{◌≡◌, ℕ, ◌+◌, ◌≤◌, List, length}
 use Rattle.std.proofs.Common.{subst, arith}
 use Rattle.sync_types.specs.declared.answers.Part.TheVariants as part
 use Rattle.counter_core.specs.Overlays.{Layer}
-use Rattle.machines.specs.Machines.{Machine, IsState, IsBorne}
+use Rattle.machines.specs.Machines.{Machine, IsState, IsToleratedBy}
 use Rattle.adversary_script.specs.Scripts.{Script}
 use Rattle.adversary_script.specs.Eras.{first_of_era, faulty_of_era}
 use Rattle.machine_runner.proofs.Firsts.{end_within}
@@ -25,14 +25,14 @@ use Rattle.layer_runner.specs.Laws.{played_states, era_scenes, IsPlayable}
 use Rattle.layer_runner.proofs.MachinesSettle.{machines_settle}
 use Rattle.layer_runner.proofs.EraScenes.{borne_in, eras_are_layer_runs, eras_count}
 use Rattle.layer_runner.proofs.SceneLocks.{eras_lock, eras_stay_locked}
-use Rattle.consensus_layer.specs.AgreeSaid.{AgreeSaid}
+use Rattle.consensus_layer.specs.AgreeContent.{AgreeContent}
 use Rattle.consensus_layer.proofs.FitInputs.{inputs_fit_over}
 use Rattle.consensus_layer.proofs.Decisions.{every_run_decides_over}
 use Rattle.firing.specs.declared.requests.Request.{Request}
 use Rattle.firing.specs.declared.fires.Fire.{Fire}
 use Rattle.firing.proofs.FitRequests.{requests_fit_over}
 use Rattle.firing.proofs.FiredTogether.{fires_together_over}
-use Rattle.replicated_log.specs.LogSaid.{LogSaid}
+use Rattle.replicated_log.specs.LogContent.{LogContent}
 use Rattle.replicated_log.proofs.FitLogs.{log_fits_over}
 use Rattle.replicated_log.proofs.SlotEntries.{every_slot_puts_one_over}
 use Rattle.replicated_log.proofs.SameLogs.{logs_are_one_over}
@@ -58,7 +58,7 @@ module _ (firsts : FirstsAreLocked) where
     abbrev machine : Machine
     machine = machine_in plan
 
-    borne : (j : ℕ) → j ≤ length script.eras → IsBorne machine (faulty_of_era script j)
+    borne : (j : ℕ) → j ≤ length script.eras → IsToleratedBy machine (faulty_of_era script j)
     borne j among = borne_in machine script layer began plays j among
 
     pub borne_by : (j : ℕ) → j ≤ length script.eras
@@ -106,7 +106,7 @@ module _ (firsts : FirstsAreLocked) where
 
   -- ---- of what was read
 
-  decisions_kept : (l : Layered AgreeSaid) → IsLayered agree_shape FitsAgreed l
+  decisions_kept : (l : Layered AgreeContent) → IsLayered agree_shape FitsAgreed l
       → DecisionsKeepPromise l.plan l.said l.script
   decisions_kept l is =
       let plan : PulseNumbers = l.plan in
@@ -161,7 +161,7 @@ module _ (firsts : FirstsAreLocked) where
             l.said fits eras;
       }
 
-  entries_kept : (l : Layered LogSaid) → IsLayered log_shape FitsLog l
+  entries_kept : (l : Layered LogContent) → IsLayered log_shape FitsLog l
       → EntriesKeepPromise l.plan l.said l.script
   entries_kept l is =
       let plan : PulseNumbers = l.plan in

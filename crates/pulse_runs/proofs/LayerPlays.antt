@@ -20,16 +20,16 @@ use Rattle.pulse_plan.specs.Plans.{PulseNumbers}
 use Rattle.pulse_plan.specs.Laws.{machine_in}
 use Rattle.pulse_runs.specs.RunInputs.{Layered}
 use Rattle.pulse_runs.specs.RunTexts.{told_by, layer_run}
-use Rattle.pulse_runs.specs.Readings.{IsFor}
+use Rattle.pulse_runs.specs.Readings.{IsScriptForPulses}
 use Rattle.pulse_runs.specs.LayerReadings.{IsLayered}
 use Rattle.pulse_runs.specs.LayerInputs.{numbers_of}
 use Rattle.pulse_runs.proofs.Playable.{layer_plays, all_count}
 
-module _ {Said Kept Made : Type 0} (name : Part)
-    (part_over : Numbers → (number : ℕ) → List (List ℕ) → Result (Found Said) (At Rule))
-    (registers : Said → Option Registers) (Fits : Numbers → Said → Type 0)
-    (IsMade : Numbers → Said → Made → Type 0) (few : IsSoundPart part_over registers Fits)
-    (words : LayerWords Said Kept) (right : IsSoundLayer words registers Fits) (input : List ℕ)
+module _ {Content Kept Made : Type 0} (name : Part)
+    (part_over : Numbers → (number : ℕ) → List (List ℕ) → Result (Found Content) (At Rule))
+    (registers : Content → Option Registers) (Fits : Numbers → Content → Type 0)
+    (IsMade : Numbers → Content → Made → Type 0) (few : IsSoundPart part_over registers Fits)
+    (words : LayerWords Content Kept) (right : IsSoundLayer words registers Fits) (input : List ℕ)
     (made : Made) (s : PulseNumbers × Shape × Script)
     (read : IsLayered name part_over registers Fits IsMade input (made, s)) (layer : Layer Kept)
     (kept : List Kept) (fresh : IsFresh words (numbers_of s.0) read.said layer kept) where
@@ -45,7 +45,7 @@ module _ {Said Kept Made : Type 0} (name : Part)
   plays : IsPlayable machine s.2 said_layer began
   plays =
       layer_plays part_over registers Fits few words right s.0 read.accepted s.2 read.said read.fits
-      (subst (λ (h : Shape). IsFor s.0 h s.2) read.shape read.script)
+      (subst (λ (h : Shape). IsScriptForPulses s.0 h s.2) read.shape read.script)
 
   -- the script is for the machine with the layer
   pub layer_for : IsReadWithLayer machine layer s.2
@@ -58,7 +58,7 @@ module _ {Said Kept Made : Type 0} (name : Part)
       ≡ Ok (played_text (machine_counter machine) (is_locked machine) s.2 layer kept wording)
   layer_text wording is =
       rw (fresh.layer_is, fresh.kept_is, is)
-      (ap (told_by (λ (l : Layered Said).
+      (ap (told_by (λ (l : Layered Content).
       let m : Machine = machine_in l.plan in
       words.text (machine_counter m) (is_locked m) l.script l.said)) read.is
       ∙ ap Ok (sym (right.as_defined (machine_counter machine) (is_locked machine) s.2 read.said

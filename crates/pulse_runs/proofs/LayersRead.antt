@@ -14,7 +14,7 @@ use Rattle.pulse_plan.specs.Plans.{PulseNumbers, IsAccepted}
 use Rattle.pulse_texts.proofs.Shaped as own
 use Rattle.pulse_runs.specs.LayerInputs.{numbers_of, layered_by}
 use Rattle.pulse_runs.specs.LayerShapes.{shape_for}
-use Rattle.pulse_runs.specs.Readings.{IsReadBehind, IsFor}
+use Rattle.pulse_runs.specs.Readings.{IsReadBehind, IsScriptForPulses}
 use Rattle.pulse_runs.specs.LayerReadings.{IsLayered}
 use Rattle.pulse_runs.proofs.LayerShaped as shaped
 use Rattle.pulse_runs.proofs.ReadParts.{holds_at}
@@ -36,17 +36,17 @@ module _ (plan : PulseNumbers) (accepted : IsAccepted plan) where
 
 -- ---- what is read of a part is for the plan's counter, and its registers are few
 
-module _ {Said : Type 0} (name : Part)
-    (part_over : Numbers → (number : ℕ) → List (List ℕ) → Result (Found Said) (At Rule))
-    (registers : Said → Option Registers) (Fits : Numbers → Said → Type 0)
+module _ {Content : Type 0} (name : Part)
+    (part_over : Numbers → (number : ℕ) → List (List ℕ) → Result (Found Content) (At Rule))
+    (registers : Content → Option Registers) (Fits : Numbers → Content → Type 0)
     (sound : IsSoundPart part_over registers Fits) where
-  pub said_fits : (numbers : Numbers) (number : ℕ) (lines : List (List ℕ)) (found : Found Said)
+  pub said_fits : (numbers : Numbers) (number : ℕ) (lines : List (List ℕ)) (found : Found Content)
       → part_over numbers number lines ≡ Ok found → Fits numbers found.value
   said_fits numbers number lines found read =
-      holds_at (λ (f : Found Said). Fits numbers f.value) (part_over numbers number lines) found
+      holds_at (λ (f : Found Content). Fits numbers f.value) (part_over numbers number lines) found
       read (sound.fits numbers number lines)
 
-  pub said_few : (numbers : Numbers) (number : ℕ) (lines : List (List ℕ)) (found : Found Said)
+  pub said_few : (numbers : Numbers) (number : ℕ) (lines : List (List ℕ)) (found : Found Content)
       → part_over numbers number lines ≡ Ok found → (given : Option Registers)
       → given ≡ registers found.value → IfSome given AreFew
   said_few numbers number lines found read given is =
@@ -54,11 +54,11 @@ module _ {Said : Type 0} (name : Part)
       (sound.few numbers found.value (said_fits numbers number lines found read))
 
   -- so all is to be played
-  pub to_play : {Made : Type 0} (IsMade : Numbers → Said → Made → Type 0) (input : List ℕ)
+  pub to_play : {Made : Type 0} (IsMade : Numbers → Content → Made → Type 0) (input : List ℕ)
       (plan : PulseNumbers) (shape : Shape) (number : ℕ) (lines : List (List ℕ))
       (s : PulseNumbers × Shape × Script)
       → IsReadBehind plan shape number lines s → IsAccepted plan
-      → (said : Said) → layered_by name part_over registers input
+      → (said : Content) → layered_by name part_over registers input
       ≡ Ok (record { plan = s.0; said = said; script = s.2 })
       → Fits (numbers_of plan) said → shape ≡ shape_for plan (registers said) → (made : Made)
       → IsMade (numbers_of plan) said made
@@ -76,7 +76,7 @@ module _ {Said : Type 0} (name : Part)
         made_is = subst (λ (p : PulseNumbers). IsMade (numbers_of p) said made) same made_is;
         shape = read.states ∙ as_said
             ∙ ap (λ (p : PulseNumbers). shape_for p (registers said)) same;
-        script = subst (λ (p : PulseNumbers). IsFor p s.1 s.2) same
-            (subst (λ (h : Shape). IsFor plan h s.2) (sym read.states)
+        script = subst (λ (p : PulseNumbers). IsScriptForPulses p s.1 s.2) same
+            (subst (λ (h : Shape). IsScriptForPulses plan h s.2) (sym read.states)
             (for_shape plan shape number lines s read sound_shape));
       }

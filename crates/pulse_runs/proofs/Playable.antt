@@ -20,11 +20,11 @@ use Rattle.layer_runner.specs.Counters.{machine_counter}
 use Rattle.layer_runner.specs.Laws.{IsPlayable}
 use Rattle.layer_runner.proofs.EraScenes.{eras_count}
 use Rattle.layer_lines.specs.Counting.{ErasCount}
-use Rattle.consensus_layer.specs.AgreeSaid.{AgreeSaid}
+use Rattle.consensus_layer.specs.AgreeContent.{AgreeContent}
 use Rattle.consensus_layer.specs.AgreePart as agree
 use Rattle.firing.specs.declared.requests.Request.{Request}
 use Rattle.firing.specs.FirePart as fire
-use Rattle.replicated_log.specs.LogSaid.{LogSaid}
+use Rattle.replicated_log.specs.LogContent.{LogContent}
 use Rattle.replicated_log.specs.LogPart as log
 use Rattle.layer_laws.specs.Numbers.{Numbers}
 use Rattle.layer_parts.specs.declared.registers.Registers.{Registers}
@@ -42,7 +42,7 @@ use Rattle.pulse_runs.specs.LayerShapes.{shape_for}
 use Rattle.pulse_runs.specs.LayerReadings.{FitsAgreed, FitsRequests, FitsLog}
 use Rattle.pulse_runs.specs.LayerPromises.{agreeing, undecided, firing_on, none_fired, logging}
 use Rattle.pulse_runs.specs.LayerPromises.{nothing_logged}
-use Rattle.pulse_runs.specs.Readings.{IsFor}
+use Rattle.pulse_runs.specs.Readings.{IsScriptForPulses}
 use Rattle.pulse_runs.proofs.ReadOver.{read_over}
 
 -- something is kept for each node
@@ -50,14 +50,14 @@ kept_for : {Kept : Type 0} (n : ℕ) (x : Kept) → IsKeptFor n (replicate n x)
 kept_for n x = inr (omega (arith, length-replicate n x))
 
 -- a part that says a layer
-module _ {Said Kept : Type 0}
-    (part_over : Numbers → (number : ℕ) → List (List ℕ) → Result (Found Said) (At Rule))
-    (registers : Said → Option Registers) (Fits : Numbers → Said → Type 0)
-    (few : IsSoundPart part_over registers Fits) (words : LayerWords Said Kept)
+module _ {Content Kept : Type 0}
+    (part_over : Numbers → (number : ℕ) → List (List ℕ) → Result (Found Content) (At Rule))
+    (registers : Content → Option Registers) (Fits : Numbers → Content → Type 0)
+    (few : IsSoundPart part_over registers Fits) (words : LayerWords Content Kept)
     (right : IsSoundLayer words registers Fits) (plan : PulseNumbers) (accepted : IsAccepted plan)
     (script : Script) where
-  pub layer_plays : (said : Said) → Fits (numbers_of plan) said
-      → IsFor plan (shape_for plan (registers said)) script
+  pub layer_plays : (said : Content) → Fits (numbers_of plan) said
+      → IsScriptForPulses plan (shape_for plan (registers said)) script
       → IsPlayable (machine_in plan) script (words.layer (numbers_of plan) said)
       (replicate (machine_in plan).nodes words.first)
   layer_plays said fits for =
@@ -71,28 +71,30 @@ module _ {Said Kept : Type 0}
         keeps = right.keeps (numbers_of plan) said sound.quorum fits;
         read = read_over plan accepted (words.layer (numbers_of plan) said) range.least range.most
             (right.fits (machine_counter (machine_in plan)) said) script
-            (subst (λ (more : Option Registers). IsFor plan (shape_for plan more) script) is for);
+            (subst (λ (more : Option Registers). IsScriptForPulses plan
+            (shape_for plan more) script) is for);
         enough = kept_for (machine_in plan).nodes words.first;
       }
 
 -- ---- the three layers
 
 module _ (plan : PulseNumbers) (accepted : IsAccepted plan) (script : Script) where
-  pub agreement_plays : (said : AgreeSaid) → FitsAgreed plan said
-      → IsFor plan (agree_shape plan said) script
+  pub agreement_plays : (said : AgreeContent) → FitsAgreed plan said
+      → IsScriptForPulses plan (agree_shape plan said) script
       → IsPlayable (machine_in plan) script (agreeing plan said) (undecided plan)
   agreement_plays =
       layer_plays agree.part_over agree_registers agree.IsForNumbers agree_sound agree_words
       agree_right plan accepted script
 
   pub firing_plays : (requests : List Request) → FitsRequests plan requests
-      → IsFor plan (fire_shape plan requests) script
+      → IsScriptForPulses plan (fire_shape plan requests) script
       → IsPlayable (machine_in plan) script (firing_on plan requests) (none_fired plan)
   firing_plays =
       layer_plays fire.part_over fire_registers fire.AreForNumbers fire_sound fire_words
       fire_right plan accepted script
 
-  pub log_plays : (said : LogSaid) → FitsLog plan said → IsFor plan (log_shape plan said) script
+  pub log_plays : (said : LogContent) → FitsLog plan said
+      → IsScriptForPulses plan (log_shape plan said) script
       → IsPlayable (machine_in plan) script (logging plan said) (nothing_logged plan)
   log_plays =
       layer_plays log.part_over log_registers log.IsForNumbers log_sound log_words log_right plan

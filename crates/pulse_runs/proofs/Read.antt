@@ -112,10 +112,10 @@ module _ (input : List ℕ) (plan : PulseNumbers) (bytes lines : ℕ)
         (script_behind plan shape (1 + lines) (lines_of rest)) e fails)
 
   -- with a part of that name after the plan
-  module _ {Said : Type 0} (name : Part)
-      (part_of : PulseNumbers → (number : ℕ) → List (List ℕ) → Result (Found Said) (At Rule))
-      (shape_for : PulseNumbers → Said → Shape) where
-    abbrev defined : Result (Layered Said) RunRefusal
+  module _ {Content : Type 0} (name : Part)
+      (part_of : PulseNumbers → (number : ℕ) → List (List ℕ) → Result (Found Content) (At Rule))
+      (shape_for : PulseNumbers → Content → Shape) where
+    abbrev defined : Result (Layered Content) RunRefusal
     defined = layered_of name part_of shape_for input
 
     by_part : defined
@@ -136,7 +136,7 @@ module _ (input : List ℕ) (plan : PulseNumbers) (bytes lines : ℕ)
     part_unread (unread.Refused refused) fails =
         part_fails (record { line = refused.line; rule = refused.rule }) fails
 
-    module _ (value : Said) (taken part_lines : ℕ)
+    module _ (value : Content) (taken part_lines : ℕ)
         (part : part_of plan (1 + lines) (lines_of rest)
         ≡ Ok (record { value = value; taken = part_lines; behind = lines_of (drop taken rest) }))
         (shape : Shape) (own : shape ≡ shape_for plan value) where
@@ -146,7 +146,7 @@ module _ (input : List ℕ) (plan : PulseNumbers) (bytes lines : ℕ)
       abbrev script_number : ℕ
       script_number = 1 + lines + part_lines
 
-      abbrev script_by : Shape → List ℕ → Result (Layered Said) RunRefusal
+      abbrev script_by : Shape → List ℕ → Result (Layered Content) RunRefusal
       script_by s text =
           then_read in_script (with_said plan value)
           (script_behind plan s script_number (lines_of text))

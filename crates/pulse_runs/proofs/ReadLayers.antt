@@ -13,25 +13,26 @@ use Rattle.pulse_texts.proofs.Shaped as shaped
 use Rattle.pulse_texts.proofs.PlanBits.{few_registers}
 use Rattle.pulse_runs.specs.RunInputs.{script_behind}
 use Rattle.pulse_runs.specs.LayerInputs.{numbers_of}
-use Rattle.pulse_runs.specs.Readings.{IsReadBehind, IsFor, CanPlay}
+use Rattle.pulse_runs.specs.Readings.{IsReadBehind, IsScriptForPulses, CanPlay}
 use Rattle.pulse_runs.proofs.ReadParts.{holds_at}
 use Rattle.pulse_runs.proofs.Scripts.{script_is_for, faults_are, read_for}
 
 module _ (plan : PulseNumbers) (shape : Shape) (number : ℕ) (lines : List (List ℕ))
     (s : PulseNumbers × Shape × Script) (is : IsReadBehind plan shape number lines s) where
-  pub for_shape : IsShape shape → IsFor plan shape s.2
+  pub for_shape : IsShape shape → IsScriptForPulses plan shape s.2
   for_shape sound =
-      holds_at (IsFor plan shape) (script_behind plan shape number lines) s.2 is.is
+      holds_at (IsScriptForPulses plan shape) (script_behind plan shape number lines) s.2 is.is
       (script_is_for plan shape sound number lines)
 
   -- with the plan's own shape it is one for the plan's machine
   pub plays_own : IsAccepted plan → shape ≡ shape_of plan → CanPlay s
   plays_own accepted own =
-      let for : IsFor plan shape s.2 =
+      let for : IsScriptForPulses plan shape s.2 =
       for_shape (subst IsShape (sym own) (shaped.is_shape plan accepted)) in
       record {
         for = subst (λ (p : PulseNumbers). IsReadFor (machine_in p) s.2) (sym is.same)
-            (read_for plan accepted s.2 (subst (λ (h : Shape). IsFor plan h s.2) own for));
+            (read_for plan accepted s.2 (subst
+            (λ (h : Shape). IsScriptForPulses plan h s.2) own for));
         shape = for.right.states ∙ sym is.states;
       }
 

@@ -12,7 +12,7 @@ use Rattle.pulse_plan.specs.Plans.{PulseNumbers, IsAccepted}
 use Rattle.pulse_plan.specs.Laws.{machine_in}
 use Rattle.pulse_plan.proofs.Sound.{nodes_are}
 use Rattle.pulse_runs.specs.LayerShapes.{shape_with}
-use Rattle.pulse_runs.specs.Readings.{IsFor}
+use Rattle.pulse_runs.specs.Readings.{IsScriptForPulses}
 use Rattle.pulse_runs.proofs.LayerShaped as shaped
 use Rattle.pulse_runs.proofs.Scripts.{faults_are}
 
@@ -35,7 +35,7 @@ module _ {Kept : Type 0} (plan : PulseNumbers) (accepted : IsAccepted plan) (lay
         (omega (arith, lt, nodes_are plan accepted));
   }
 
-  pub read_over : (script : Script) → IsFor plan shape script
+  pub read_over : (script : Script) → IsScriptForPulses plan shape script
       → IsReadWithLayer (machine_in plan) layer script
   read_over script for =
       readers_fit layer (machine_in plan) shape script is_shape_over

@@ -110,18 +110,18 @@ module _ (fronts : PulsesTextIsRead) (whole : ScriptTextIsWhole) where
         (run_read plan accepted))
 
     -- a part of that name, whose text has so many lines and is read as what it says
-    module _ {Said : Type 0} (name : Part)
-        (part_of : PulseNumbers → (number : ℕ) → List (List ℕ) → Result (Found Said) (At Rule))
-        (shape_for : PulseNumbers → Said → Shape) (Fits : PulseNumbers → Said → Type 0)
-        (text : Said → List ℕ) (size : Said → ℕ)
-        (part_read : (plan : PulseNumbers) → IsAccepted plan → (said : Said) → Fits plan said
+    module _ {Content : Type 0} (name : Part)
+        (part_of : PulseNumbers → (number : ℕ) → List (List ℕ) → Result (Found Content) (At Rule))
+        (shape_for : PulseNumbers → Content → Shape) (Fits : PulseNumbers → Content → Type 0)
+        (text : Content → List ℕ) (size : Content → ℕ)
+        (part_read : (plan : PulseNumbers) → IsAccepted plan → (said : Content) → Fits plan said
         → (number : ℕ) (rest : List ℕ) → part_of plan number (lines_of (text said ++ rest))
         ≡ Ok (record { value = said; taken = size said; behind = lines_of rest }))
         (fit : (plan : PulseNumbers) → IsAccepted plan → (number : ℕ) (lines : List (List ℕ))
         → IfOk (part_of plan number lines) (λ found. Fits plan found.value))
-        (has : (plan : PulseNumbers) → IsAccepted plan → (said : Said) → Fits plan said
+        (has : (plan : PulseNumbers) → IsAccepted plan → (said : Content) → Fits plan said
         → HasText plan.nodes (shape_for plan said)) where
-      text_read : (plan : PulseNumbers) → IsAccepted plan → (said : Said) → Fits plan said
+      text_read : (plan : PulseNumbers) → IsAccepted plan → (said : Content) → Fits plan said
           → (script : Script) → IsWritableFor plan.nodes plan.faults (shape_for plan said) script
           → layered_of name part_of shape_for (layered_text text plan said script)
           ≡ Ok (record { plan = plan; said = said; script = script })
@@ -133,12 +133,12 @@ module _ (fronts : PulsesTextIsRead) (whole : ScriptTextIsWhole) where
           ∙ script_is plan accepted (shape_for plan said) (has plan accepted said for)
           (with_said plan said) (4 + size said) script is
 
-      abbrev IsReadAgain : Layered Said → Type 0
+      abbrev IsReadAgain : Layered Content → Type 0
       IsReadAgain read =
           layered_of name part_of shape_for (layered_text text read.plan read.said read.script)
           ≡ Ok read
 
-      part_again : (plan : PulseNumbers) → IsAccepted plan → (number : ℕ) (found : Found Said)
+      part_again : (plan : PulseNumbers) → IsAccepted plan → (number : ℕ) (found : Found Content)
           → Fits plan found.value
           → IfOk (behind_part name part_of shape_for plan number found) IsReadAgain
       part_again plan accepted number found for =

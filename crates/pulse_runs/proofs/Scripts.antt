@@ -27,7 +27,7 @@ use Rattle.pulse_runs.specs.RunInputs.{in_plan, in_part, in_script, script_behin
 use Rattle.pulse_runs.specs.RunInputs.{with_script, scripted_behind, scripted_of, Layered}
 use Rattle.pulse_runs.specs.RunInputs.{with_said, behind_part, layered_behind, layered_of}
 use Rattle.pulse_runs.specs.LayerInputs.{slots_part, slots_shape, slotted_of}
-use Rattle.pulse_runs.specs.Readings.{IsFor}
+use Rattle.pulse_runs.specs.Readings.{IsScriptForPulses}
 use Rattle.pulse_runs.specs.ScriptInputs.{FitsTable}
 use Rattle.pulse_runs.proofs.ReadParts.{then_holds, both_hold, holds_at}
 
@@ -37,17 +37,18 @@ pub record IsRead (plan : PulseNumbers) (script : Script) : Type 0 where
   pub for : IsReadFor (machine_in plan) script
 
 -- the plan is accepted, what is said fits it, and the script is one for both
-pub record IsLayered {Said : Type 0} (shape_for : PulseNumbers → Said → Shape)
-    (Fits : PulseNumbers → Said → Type 0) (read : Layered Said) : Type 0 where
+pub record IsLayered {Content : Type 0} (shape_for : PulseNumbers → Content → Shape)
+    (Fits : PulseNumbers → Content → Type 0) (read : Layered Content) : Type 0 where
   pub accepted : IsAccepted read.plan
   pub fits : Fits read.plan read.said
-  pub script : IsFor read.plan (shape_for read.plan read.said) read.script
+  pub script : IsScriptForPulses read.plan (shape_for read.plan read.said) read.script
 
 -- a script that is read after a plan is one for the shape by which it is read
 pub script_is_for : (plan : PulseNumbers) (shape : Shape) → IsShape shape → (number : ℕ)
-    (lines : List (List ℕ)) → IfOk (script_behind plan shape number lines) (IsFor plan shape)
+    (lines : List (List ℕ)) → IfOk (script_behind plan shape number lines)
+    (IsScriptForPulses plan shape)
 script_is_for plan shape sound number lines =
-    both_hold (IsScriptFor plan.nodes plan.faults shape) IsScript (IsFor plan shape)
+    both_hold (IsScriptFor plan.nodes plan.faults shape) IsScript (IsScriptForPulses plan shape)
     (script_behind plan shape number lines)
     (script_fits plan.nodes plan.faults shape sound number lines)
     (script_is_script plan.nodes plan.faults shape sound number lines)
@@ -76,7 +77,7 @@ module _ (plan : PulseNumbers) (accepted : IsAccepted plan) where
       (subst (λ n. IsScriptFor n plan.faults (shape_of plan) script)
       (sym (shaped.nodes_are plan accepted)) for)
 
-  pub read_for : (script : Script) → IsFor plan (shape_of plan) script
+  pub read_for : (script : Script) → IsScriptForPulses plan (shape_of plan) script
       → IsReadFor (machine_in plan) script
   read_for script for =
       readers_fit (machine_in plan) (shape_of plan) script is_shape_of
@@ -96,7 +97,7 @@ scripted_read input =
     (read_is_accepted input)
     (λ found accepted.
     let plan : PulseNumbers = found.value in
-    then_holds in_script (with_script plan) (IsFor plan (shape_of plan)) ScriptedRead
+    then_holds in_script (with_script plan) (IsScriptForPulses plan (shape_of plan)) ScriptedRead
     (script_behind plan (shape_of plan) (1 + found.taken) found.behind)
     (script_is_for plan (shape_of plan) (shaped.is_shape plan accepted) (1 + found.taken)
     found.behind)
@@ -106,22 +107,22 @@ pub is_read : (input : List ℕ) (s : Scripted) → scripted_of input ≡ Ok s �
 is_read input s is = holds_at ScriptedRead (scripted_of input) s is (scripted_read input)
 
 -- a part of that name, if what is said fits its plan, and the shape is one
-module _ {Said : Type 0} (name : Part)
-    (part_of : PulseNumbers → (number : ℕ) → List (List ℕ) → Result (Found Said) (At Rule))
-    (shape_for : PulseNumbers → Said → Shape) (Fits : PulseNumbers → Said → Type 0)
+module _ {Content : Type 0} (name : Part)
+    (part_of : PulseNumbers → (number : ℕ) → List (List ℕ) → Result (Found Content) (At Rule))
+    (shape_for : PulseNumbers → Content → Shape) (Fits : PulseNumbers → Content → Type 0)
     (fit : (plan : PulseNumbers) → IsAccepted plan → (number : ℕ) (lines : List (List ℕ))
     → IfOk (part_of plan number lines) (λ found. Fits plan found.value))
-    (sound : (plan : PulseNumbers) → IsAccepted plan → (said : Said) → Fits plan said
+    (sound : (plan : PulseNumbers) → IsAccepted plan → (said : Content) → Fits plan said
     → IsShape (shape_for plan said)) where
-  abbrev FitsIn : PulseNumbers → Found Said → Type 0
+  abbrev FitsIn : PulseNumbers → Found Content → Type 0
   FitsIn plan found = Fits plan found.value
 
-  part_read : (plan : PulseNumbers) → IsAccepted plan → (number : ℕ) (found : Found Said)
+  part_read : (plan : PulseNumbers) → IsAccepted plan → (number : ℕ) (found : Found Content)
       → FitsIn plan found
       → IfOk (behind_part name part_of shape_for plan number found) (IsLayered shape_for Fits)
   part_read plan accepted number found fits =
       let shape = shape_for plan found.value in
-      then_holds in_script (with_said plan found.value) (IsFor plan shape)
+      then_holds in_script (with_said plan found.value) (IsScriptForPulses plan shape)
       (IsLayered shape_for Fits)
       (script_behind plan shape (number + found.taken) found.behind)
       (script_is_for plan shape (sound plan accepted found.value fits) (number + found.taken)
@@ -140,7 +141,7 @@ module _ {Said : Type 0} (name : Part)
       (IsLayered shape_for Fits) (part_of plan number found.behind)
       (fit plan accepted number found.behind) (part_read plan accepted number))
 
-  pub layered_read : (input : List ℕ) (l : Layered Said)
+  pub layered_read : (input : List ℕ) (l : Layered Content)
       → layered_of name part_of shape_for input ≡ Ok l → IsLayered shape_for Fits l
   layered_read input l is =
       holds_at (IsLayered shape_for Fits) (layered_of name part_of shape_for input) l is

@@ -8,11 +8,11 @@ use Rattle.state_codec.specs.Shapes.{Shape}
 use Rattle.slot_table.specs.declared.lines.SlotLine.{SlotLine}
 use Rattle.slot_table.specs.SlotPart as slots
 use Rattle.layer_laws.specs.Numbers.{Numbers}
-use Rattle.consensus_layer.specs.AgreeSaid.{AgreeSaid}
+use Rattle.consensus_layer.specs.AgreeContent.{AgreeContent}
 use Rattle.consensus_layer.specs.AgreePart as agree
 use Rattle.firing.specs.declared.requests.Request.{Request}
 use Rattle.firing.specs.FirePart as fire
-use Rattle.replicated_log.specs.LogSaid.{LogSaid}
+use Rattle.replicated_log.specs.LogContent.{LogContent}
 use Rattle.replicated_log.specs.LogPart as log
 use Rattle.pulse_plan.specs.Halvings.{halving_nodes, halving_faults}
 use Rattle.pulse_plan.specs.Steps.{halving_depth}
@@ -34,9 +34,9 @@ numbers_of plan = record {
 
 -- ---- a part for the numbers of a plan's counter, which has such registers
 
-abbrev pub layered_by : {Said : Type 0} → Part
-    → (part_over : Numbers → (number : ℕ) → List (List ℕ) → Result (Found Said) (At Rule))
-    → (registers : Said → Option Registers) → List ℕ → Result (Layered Said) RunRefusal
+abbrev pub layered_by : {Content : Type 0} → Part
+    → (part_over : Numbers → (number : ℕ) → List (List ℕ) → Result (Found Content) (At Rule))
+    → (registers : Content → Option Registers) → List ℕ → Result (Layered Content) RunRefusal
 layered_by name part_over registers input =
     layered_of name (λ plan. part_over (numbers_of plan))
     (λ plan said. shape_for plan (registers said)) input
@@ -56,13 +56,13 @@ slotted_of input = layered_of part.Slots slots_part slots_shape input
 -- ---- consensus: one register of the values that are said, after those of the plan
 
 abbrev pub agree_part : PulseNumbers → (number : ℕ) → List (List ℕ)
-    → Result (Found AgreeSaid) (At Rule)
+    → Result (Found AgreeContent) (At Rule)
 agree_part plan number lines = agree.part_over (numbers_of plan) number lines
 
-abbrev pub agree_shape : PulseNumbers → AgreeSaid → Shape
+abbrev pub agree_shape : PulseNumbers → AgreeContent → Shape
 agree_shape plan said = shape_with plan said.values 1
 
-abbrev pub agreed_of : List ℕ → Result (Layered AgreeSaid) RunRefusal
+abbrev pub agreed_of : List ℕ → Result (Layered AgreeContent) RunRefusal
 agreed_of input = layered_of part.Agree agree_part agree_shape input
 
 -- ---- requests to fire: one register of two values
@@ -80,11 +80,11 @@ firing_of input = layered_of part.Fire fire_part fire_shape input
 -- ---- a log: two registers of its values
 
 abbrev pub log_part : PulseNumbers → (number : ℕ) → List (List ℕ)
-    → Result (Found LogSaid) (At Rule)
+    → Result (Found LogContent) (At Rule)
 log_part plan number lines = log.part_over (numbers_of plan) number lines
 
-abbrev pub log_shape : PulseNumbers → LogSaid → Shape
+abbrev pub log_shape : PulseNumbers → LogContent → Shape
 log_shape plan said = shape_with plan said.values 2
 
-abbrev pub logging_of : List ℕ → Result (Layered LogSaid) RunRefusal
+abbrev pub logging_of : List ℕ → Result (Layered LogContent) RunRefusal
 logging_of input = layered_of part.Log log_part log_shape input

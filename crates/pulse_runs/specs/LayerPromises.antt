@@ -2,7 +2,7 @@
 use Rattle.std.specs.Prelude.{◌≡◌, ℕ, ◌+◌, ◌<◌, ◌≤◌, List, [], length, Ok, true, replicate}
 use Rattle.counter_core.specs.Meanings.{Meaning}
 use Rattle.counter_core.specs.Overlays.{Layer}
-use Rattle.machines.specs.Machines.{Machine, IsBorne, IsLocked}
+use Rattle.machines.specs.Machines.{Machine, IsToleratedBy, IsLocked}
 use Rattle.adversary_script.specs.Scripts.{Script}
 use Rattle.adversary_script.specs.Eras.{first_of_era, end_of_era, faulty_of_era, faulty_at}
 use Rattle.machine_runner.specs.Laws.{IsUpTo}
@@ -21,14 +21,14 @@ use Rattle.layer_runner.specs.Counters.{machine_counter}
 use Rattle.layer_runner.specs.ReadOver.{IsReadWithLayer}
 use Rattle.layer_runner.specs.Laws.{played_states, era_scenes, EraIsLayerRun, EraCountsFrom}
 use Rattle.layer_runner.specs.Laws.{EraStaysLocked}
-use Rattle.consensus_layer.specs.AgreeSaid.{AgreeSaid}
+use Rattle.consensus_layer.specs.AgreeContent.{AgreeContent}
 use Rattle.consensus_layer.specs.Agreements.{agree_layer_over, DecidesOver}
 use Rattle.firing.specs.declared.fires.Fire.{Fire}
 use Rattle.firing.specs.declared.requests.Request.{Request}
 use Rattle.firing.specs.Firings.{fire_layer_over, unfired, FiresTogetherOver}
 use Rattle.replicated_log.specs.declared.entries.Entry.{Entry}
 use Rattle.replicated_log.specs.EntryLength.{entry_length}
-use Rattle.replicated_log.specs.LogSaid.{LogSaid}
+use Rattle.replicated_log.specs.LogContent.{LogContent}
 use Rattle.replicated_log.specs.Logs.{log_layer_over, log_of}
 use Rattle.replicated_log.specs.PutEntries.{PutsOneOver, SameSinceOver, commands_in_turn_over}
 use Rattle.pulse_plan.specs.Plans.{PulseNumbers, IsAccepted}
@@ -43,7 +43,7 @@ use Rattle.pulse_runs.specs.LayerReadings.{FitsAgreed, FitsRequests, FitsLog}
 -- each locked one on they stay locked and count.
 pub record EraKeepsLayer {Kept : Type 0} (machine : Machine) (script : Script) (layer : Layer Kept)
     (began : List Kept) (j : ℕ) : Type 0 where
-  pub borne : IsBorne machine (faulty_of_era script j)
+  pub borne : IsToleratedBy machine (faulty_of_era script j)
   pub run : EraIsLayerRun machine script layer began j
   pub counts :
       EraCountsFrom machine script layer began j (first_of_era script j + machine.bound)
@@ -74,7 +74,7 @@ module _ (plan : PulseNumbers) where
 
   -- the layers above it, and what nodes keep at first: each decision is 0, none fires, and all logs
   -- are empty
-  abbrev pub agreeing : AgreeSaid → Layer ℕ
+  abbrev pub agreeing : AgreeContent → Layer ℕ
   agreeing said = agree_layer_over (numbers_of plan) said.values said.inputs
 
   abbrev pub undecided : List ℕ
@@ -86,7 +86,7 @@ module _ (plan : PulseNumbers) where
   abbrev pub none_fired : List Fire
   none_fired = replicate counter_of.nodes unfired
 
-  abbrev pub logging : LogSaid → Layer (List Entry)
+  abbrev pub logging : LogContent → Layer (List Entry)
   logging said = log_layer_over (numbers_of plan) said
 
   abbrev pub nothing_logged : List (List Entry)
@@ -95,7 +95,7 @@ module _ (plan : PulseNumbers) where
   -- In each era, each slot that begins later than T rounds into it and ends in it ends with one
   -- decision of all correct nodes, which is their common input if they have one. Just such slots
   -- have a line, if they begin in a configuration that is shown, and its words are the decision.
-  pub record DecisionsKeepPromise (said : AgreeSaid) (script : Script) : Type 0 where
+  pub record DecisionsKeepPromise (said : AgreeContent) (script : Script) : Type 0 where
     pub run : LayerKeepsPromise plan (agreeing said) undecided script
     pub fits : FitsAgreed plan said
     pub decides : (j : ℕ) → j ≤ length script.eras
@@ -133,7 +133,7 @@ module _ (plan : PulseNumbers) where
   -- begins later than T, the entry is what its owner commands, if that is correct. Just the slots
   -- that begin later have a line, if they begin in a configuration that is shown, and its words are
   -- the entry's value.
-  pub record EntriesKeepPromise (said : LogSaid) (script : Script) : Type 0 where
+  pub record EntriesKeepPromise (said : LogContent) (script : Script) : Type 0 where
     pub run : LayerKeepsPromise plan (logging said) nothing_logged script
     pub fits : FitsLog plan said
     pub puts : (j : ℕ) → j ≤ length script.eras
@@ -160,9 +160,9 @@ module _ (plan : PulseNumbers) where
 
 -- So it is with each input that is read as a plan, such a part and a script.
 pub record LayersKeepPromise : Type 0 where
-  pub consensus : (input : List ℕ) (read : Layered AgreeSaid) → agreed_of input ≡ Ok read
+  pub consensus : (input : List ℕ) (read : Layered AgreeContent) → agreed_of input ≡ Ok read
       → DecisionsKeepPromise read.plan read.said read.script
   pub fire : (input : List ℕ) (read : Layered (List Request)) → firing_of input ≡ Ok read
       → FiresKeepPromise read.plan read.said read.script
-  pub log : (input : List ℕ) (read : Layered LogSaid) → logging_of input ≡ Ok read
+  pub log : (input : List ℕ) (read : Layered LogContent) → logging_of input ≡ Ok read
       → EntriesKeepPromise read.plan read.said read.script

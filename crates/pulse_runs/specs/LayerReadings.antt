@@ -8,40 +8,40 @@ use Rattle.adversary_script.specs.Scripts.{Script}
 use Rattle.layer_laws.specs.Numbers.{Numbers}
 use Rattle.layer_parts.specs.declared.registers.Registers.{Registers}
 use Rattle.consensus_layer.specs.AgreePart.{IsForNumbers}
-use Rattle.consensus_layer.specs.AgreeSaid.{AgreeSaid}
+use Rattle.consensus_layer.specs.AgreeContent.{AgreeContent}
 use Rattle.firing.specs.declared.requests.Request.{Request}
 use Rattle.firing.specs.FirePart as firing
-use Rattle.replicated_log.specs.LogSaid.{LogSaid}
+use Rattle.replicated_log.specs.LogContent.{LogContent}
 use Rattle.replicated_log.specs.LogPart as logging
 use Rattle.pulse_plan.specs.Plans.{PulseNumbers, IsAccepted}
 use Rattle.pulse_runs.specs.LayerInputs.{numbers_of, layered_by}
 use Rattle.pulse_runs.specs.LayerShapes.{shape_for}
-use Rattle.pulse_runs.specs.Readings.{IsFor}
+use Rattle.pulse_runs.specs.Readings.{IsScriptForPulses}
 
-module _ {Said Made : Type 0} (name : Part)
-    (part_over : Numbers → (number : ℕ) → List (List ℕ) → Result (Found Said) (At Rule))
-    (registers : Said → Option Registers) (Fits : Numbers → Said → Type 0)
-    (IsMade : Numbers → Said → Made → Type 0) where
+module _ {Content Made : Type 0} (name : Part)
+    (part_over : Numbers → (number : ℕ) → List (List ℕ) → Result (Found Content) (At Rule))
+    (registers : Content → Option Registers) (Fits : Numbers → Content → Type 0)
+    (IsMade : Numbers → Content → Made → Type 0) where
   -- what the part of an input says, the plan, the shape of states with the part's registers, and
   -- the script
   pub record IsLayered (input : List ℕ) (read : Made × (PulseNumbers × Shape × Script)) : Type 0
     where
-      pub said : Said
+      pub said : Content
       pub is : layered_by name part_over registers input
           ≡ Ok (record { plan = read.1.0; said = said; script = read.1.2 })
       pub accepted : IsAccepted read.1.0
       pub fits : Fits (numbers_of read.1.0) said
       pub made_is : IsMade (numbers_of read.1.0) said read.0
       pub shape : read.1.1 ≡ shape_for read.1.0 (registers said)
-      pub script : IsFor read.1.0 read.1.1 read.1.2
+      pub script : IsScriptForPulses read.1.0 read.1.1 read.1.2
 
 -- ---- what is for the counter of a plan
 
-abbrev pub FitsAgreed : PulseNumbers → AgreeSaid → Type 0
+abbrev pub FitsAgreed : PulseNumbers → AgreeContent → Type 0
 FitsAgreed plan said = IsForNumbers (numbers_of plan) said
 
 abbrev pub FitsRequests : PulseNumbers → List Request → Type 0
 FitsRequests plan requests = firing.AreForNumbers (numbers_of plan) requests
 
-abbrev pub FitsLog : PulseNumbers → LogSaid → Type 0
+abbrev pub FitsLog : PulseNumbers → LogContent → Type 0
 FitsLog plan said = logging.IsForNumbers (numbers_of plan) said

@@ -54,7 +54,7 @@ FailsBehind plan shape number lines error =
     (then_read in_script (λ (s : Script). Ok s) (script_behind plan shape number lines))
 
 -- a script for a plan's nodes and faults, and for states of that shape
-pub record IsFor (plan : PulseNumbers) (shape : Shape) (script : Script) : Type 0 where
+pub record IsScriptForPulses (plan : PulseNumbers) (shape : Shape) (script : Script) : Type 0 where
   pub right : IsScriptFor plan.nodes plan.faults shape script
   pub whole : IsScript script
 

@@ -58,31 +58,31 @@ scripted_of input = then_read in_plan scripted_behind (pulses_of input)
 -- ---- with another part between them
 
 -- a plan, what the part says, and a script for both
-pub record Layered (Said : Type 0) : Type 0 where
+pub record Layered (Content : Type 0) : Type 0 where
   pub plan : PulseNumbers
-  pub said : Said
+  pub said : Content
   pub script : Script
 
-abbrev pub with_said : {Said : Type 0} → PulseNumbers → Said → Script
-    → Result (Layered Said) RunRefusal
+abbrev pub with_said : {Content : Type 0} → PulseNumbers → Content → Script
+    → Result (Layered Content) RunRefusal
 with_said plan said script = Ok (record { plan = plan; said = said; script = script })
 
 -- a part of that name, and the shape of states with the registers of its layer
-module _ {Said : Type 0} (name : Part)
-    (part_of : PulseNumbers → (number : ℕ) → List (List ℕ) → Result (Found Said) (At Rule))
-    (shape_for : PulseNumbers → Said → Shape) where
+module _ {Content : Type 0} (name : Part)
+    (part_of : PulseNumbers → (number : ℕ) → List (List ℕ) → Result (Found Content) (At Rule))
+    (shape_for : PulseNumbers → Content → Shape) where
   -- the script after a part that begins with the line of that number
-  abbrev pub behind_part : PulseNumbers → (number : ℕ) → Found Said
-      → Result (Layered Said) RunRefusal
+  abbrev pub behind_part : PulseNumbers → (number : ℕ) → Found Content
+      → Result (Layered Content) RunRefusal
   behind_part plan number found =
       then_read in_script (with_said plan found.value)
       (script_behind plan (shape_for plan found.value) (number + found.taken) found.behind)
 
-  abbrev pub layered_behind : Found PulseNumbers → Result (Layered Said) RunRefusal
+  abbrev pub layered_behind : Found PulseNumbers → Result (Layered Content) RunRefusal
   layered_behind found =
       let plan : PulseNumbers = found.value in
       let number : ℕ = 1 + found.taken in
       then_read (in_part name) (behind_part plan number) (part_of plan number found.behind)
 
-  abbrev pub layered_of : List ℕ → Result (Layered Said) RunRefusal
+  abbrev pub layered_of : List ℕ → Result (Layered Content) RunRefusal
   layered_of input = then_read in_plan layered_behind (pulses_of input)

@@ -2,7 +2,7 @@
 use Rattle.std.specs.Prelude.{◌≡◌, ℕ, ◌+◌, ◌<◌, ◌≤◌, List, length, Ok}
 use Rattle.adversary_script.specs.Scripts.{Script}
 use Rattle.adversary_script.specs.Eras.{first_of_era, end_of_era, faulty_of_era, faulty_at}
-use Rattle.machines.specs.Machines.{Machine, IsBorne, IsLocked}
+use Rattle.machines.specs.Machines.{Machine, IsToleratedBy, IsLocked}
 use Rattle.machine_runner.specs.ShownTexts.{lock_played}
 use Rattle.machine_runner.specs.Laws.{IsReadFor, IsUpTo, EraIsRun, EraCountsFrom, EraStaysLocked}
 use Rattle.machine_runner.specs.Locks.{IsFirstLocked}
@@ -16,7 +16,7 @@ use Rattle.pulse_runs.specs.RunInputs.{Scripted, scripted_of}
 -- correct nodes count. The first locked configuration that is written of it is the first one, and
 -- from each locked one on they stay locked and count.
 pub record EraKeepsPromise (machine : Machine) (script : Script) (j : ℕ) : Type 0 where
-  pub borne : IsBorne machine (faulty_of_era script j)
+  pub borne : IsToleratedBy machine (faulty_of_era script j)
   pub run : EraIsRun machine script j
   pub counts : EraCountsFrom machine script j (first_of_era script j + machine.bound)
   pub locked : IsFirstLocked machine script (played_at machine script) j script.rounds

@@ -20,9 +20,9 @@ use Rattle.layer_runner.specs.Counters.{machine_counter}
 use Rattle.layer_lines.specs.DecisionTexts.{decision_text}
 use Rattle.layer_lines.specs.FireTexts.{fire_text}
 use Rattle.layer_lines.specs.EntryTexts.{log_text}
-use Rattle.consensus_layer.specs.AgreeSaid.{AgreeSaid}
+use Rattle.consensus_layer.specs.AgreeContent.{AgreeContent}
 use Rattle.firing.specs.declared.requests.Request.{Request}
-use Rattle.replicated_log.specs.LogSaid.{LogSaid}
+use Rattle.replicated_log.specs.LogContent.{LogContent}
 use Rattle.node_words.specs.Rules.{rule_word, part_word}
 use Rattle.pulse_plan.specs.Laws.{machine_in}
 use Rattle.pulse_texts.specs.PulseWords as pulses
@@ -61,7 +61,7 @@ abbrev pub holds_of : Layered (List SlotLine) → List ℕ
 holds_of slotted = hold_text slotted.said (machine_in slotted.plan) slotted.script
 
 -- what is decided in each slot that counts
-abbrev pub decisions_of : Layered AgreeSaid → List ℕ
+abbrev pub decisions_of : Layered AgreeContent → List ℕ
 decisions_of read =
     let machine : Machine = machine_in read.plan in
     decision_text (machine_counter machine) (is_locked machine) read.script read.said
@@ -73,7 +73,7 @@ fires_of read =
     fire_text (machine_counter machine) (is_locked machine) read.script read.said
 
 -- the entry that each of them puts into the logs
-abbrev pub entries_of : Layered LogSaid → List ℕ
+abbrev pub entries_of : Layered LogContent → List ℕ
 entries_of read =
     let machine : Machine = machine_in read.plan in
     log_text (machine_counter machine) (is_locked machine) read.script read.said
@@ -85,9 +85,9 @@ told_by text (Ok read) = Ok (text read)
 told_by text (Err refused) = Err refused
 
 -- the run of an input with a part that says a layer
-abbrev pub layer_run : {Said Kept : Type 0} → Part
-    → (part_over : Numbers → (number : ℕ) → List (List ℕ) → Result (Found Said) (At Rule))
-    → (registers : Said → Option Registers) → LayerWords Said Kept → List ℕ
+abbrev pub layer_run : {Content Kept : Type 0} → Part
+    → (part_over : Numbers → (number : ℕ) → List (List ℕ) → Result (Found Content) (At Rule))
+    → (registers : Content → Option Registers) → LayerWords Content Kept → List ℕ
     → Result (List ℕ) RunRefusal
 layer_run name part_over registers words input =
     told_by (λ read.

@@ -21,17 +21,19 @@ abbrev pub scripted_text : PulseNumbers → Script → List ℕ
 scripted_text plan script = pulses_text plan ++ script_text script
 
 -- with the text of another part between them
-abbrev pub layered_text : {Said : Type 0} → (text : Said → List ℕ) → PulseNumbers → Said → Script
+abbrev pub layered_text : {Content : Type 0} → (text : Content → List ℕ) → PulseNumbers → Content
+    → Script
     → List ℕ
 layered_text text plan said script = pulses_text plan ++ (text said ++ script_text script)
 
 -- The texts of an accepted plan, of what fits it, and of a script for both that a text can say, one
 -- after the other, are read as these. There are no others: what any input is read as, these texts
 -- are read as.
-pub record LayeredAreRead {Said : Type 0} (layered_of : List ℕ → Result (Layered Said) RunRefusal)
-    (text : Said → List ℕ) (shape_for : PulseNumbers → Said → Shape)
-    (Fits : PulseNumbers → Said → Type 0) : Type 0 where
-  pub read : (plan : PulseNumbers) → IsAccepted plan → (said : Said) → Fits plan said
+pub record LayeredAreRead {Content : Type 0}
+    (layered_of : List ℕ → Result (Layered Content) RunRefusal)
+    (text : Content → List ℕ) (shape_for : PulseNumbers → Content → Shape)
+    (Fits : PulseNumbers → Content → Type 0) : Type 0 where
+  pub read : (plan : PulseNumbers) → IsAccepted plan → (said : Content) → Fits plan said
       → (script : Script)
       → IsWritableFor plan.nodes plan.faults (shape_for plan said) script
       → layered_of (layered_text text plan said script)

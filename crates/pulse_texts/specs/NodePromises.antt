@@ -1,6 +1,6 @@
 -- What calls of nodes of a pulse plan promise if they are given one another's cells.
 use Rattle.std.specs.Prelude.{ℕ, List}
-use Rattle.machines.specs.Machines.{IsBorne}
+use Rattle.machines.specs.Machines.{IsToleratedBy}
 use Rattle.machines.specs.Laws.{IsSound}
 use Rattle.node_stepper.specs.NodeRuns.{SomeIsCorrect}
 use Rattle.node_stepper.specs.Missed.{OthersAreMissed}
@@ -31,7 +31,7 @@ pub record PulseNodesKeepPromise : Type 0 where
       → (is : IsOfNode pulse_words (machine_in plan) v call)
       → IsAccepted is.header.plan × IsSound (machine_in plan)
   pub some : (plan : PulseNumbers) → IsAccepted plan → (faulty : List ℕ)
-      → IsBorne (machine_in plan) faulty → SomeIsCorrect (machine_in plan) faulty
+      → IsToleratedBy (machine_in plan) faulty → SomeIsCorrect (machine_in plan) faulty
   pub skips : HeaderSkipsAreUnseen pulse_words
 
 -- Each call of a node is a process over packets, from the state on that its header states.

@@ -10,7 +10,7 @@ use Rattle.layer_laws.specs.Played.{Telling, scene_after}
 use Rattle.consensus_layer.specs.Agreeing.{loaded}
 use Rattle.replicated_log.specs.declared.entries.Entry.{Entry}
 use Rattle.replicated_log.specs.EntryLength.{owner_at, command_at}
-use Rattle.replicated_log.specs.LogSaid.{LogSaid}
+use Rattle.replicated_log.specs.LogContent.{LogContent}
 use Rattle.replicated_log.specs.Logs.{log_layer, log_of}
 
 abbrev plan : Plan
@@ -38,7 +38,7 @@ first_command = refl
 next_command : command_at 4 1 commands 2 42 ≡ 10
 next_command = refl
 
-abbrev said : LogSaid
+abbrev said : LogContent
 said = record { values = 16; keep = 8; commands = commands }
 
 -- ---- the log: from output 13 on, with node 3 faulty, whose lies differ by receiver

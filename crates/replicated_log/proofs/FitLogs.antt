@@ -20,13 +20,13 @@ use Rattle.layer_laws.specs.Numbers.{Numbers, numbers_of}
 use Rattle.consensus_layer.specs.PartLines.{head_tested, number_within}
 use Rattle.consensus_layer.proofs.PartLines.{head_fits, IsWithin, is_within, all_below}
 use Rattle.replicated_log.specs.EntryLength.{entry_length}
-use Rattle.replicated_log.specs.LogSaid.{LogSaid}
+use Rattle.replicated_log.specs.LogContent.{LogContent}
 use Rattle.replicated_log.specs.declared.log_lines.LogStage.{LogStage}
 use Rattle.replicated_log.specs.declared.log_lines.LogStage.TheVariants.{Unread, Begun, Valued}
 use Rattle.replicated_log.specs.declared.log_lines.LogStage.TheVariants.{Keeping}
 use Rattle.replicated_log.specs.LogPart.{LogSoFar, nothing_read_over, commands_tested, commands_in}
 use Rattle.replicated_log.specs.LogPart.{at_stage, with_own, end_step, step_at, log_step}
-use Rattle.replicated_log.specs.LogPart.{part_over, part_of, AreInRange, IsForNumbers, IsFor}
+use Rattle.replicated_log.specs.LogPart.{part_over, part_of, AreInRange, IsForNumbers, IsLogForPlan}
 
 abbrev IsWhole : Numbers → Type 0
 IsWhole numbers = numbers.modulus % (numbers.nodes * entry_length numbers.faults) ≡ 0
@@ -113,10 +113,10 @@ record FitSoFar (numbers : Numbers) (s : LogSoFar) : Type 0 where
 
 module _ (numbers : Numbers) where
   -- it fits, and can be written
-  abbrev IsSaid : LogSaid → Type 0
+  abbrev IsSaid : LogContent → Type 0
   IsSaid said = IsForNumbers numbers said × All IsShort said.commands
 
-  abbrev Goes : Next LogSoFar LogSaid Rule → Type 0
+  abbrev Goes : Next LogSoFar LogContent Rule → Type 0
   Goes next = After (FitSoFar numbers) IsSaid next
 
   headed : (s : LogSoFar) → s.stage ≡ Unread → FitSoFar numbers s → s.whole ≡ true
@@ -252,7 +252,7 @@ log_fits_over numbers number lines =
 
 -- so it is for that of a plan
 pub log_fits : (plan : Plan) (number : ℕ) (lines : List (List ℕ))
-    → IfOk (part_of plan number lines) (λ found. IsFor plan found.value)
+    → IfOk (part_of plan number lines) (λ found. IsLogForPlan plan found.value)
 log_fits plan = log_fits_over (numbers_of plan)
 
 -- and each node has at most 16 commands

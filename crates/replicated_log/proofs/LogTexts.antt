@@ -24,7 +24,7 @@ use Rattle.consensus_layer.proofs.PartLines.{within_back, below_pass, below_shor
 use Rattle.replicated_log.specs.declared.log_lines.LogStage.{LogStage}
 use Rattle.replicated_log.specs.declared.log_lines.LogStage.TheVariants.{Begun, Valued, Keeping}
 use Rattle.replicated_log.specs.EntryLength.{entry_length}
-use Rattle.replicated_log.specs.LogSaid.{LogSaid}
+use Rattle.replicated_log.specs.LogContent.{LogContent}
 use Rattle.replicated_log.specs.LogPart.{LogSoFar, nothing_read_over, commands_tested, commands_in}
 use Rattle.replicated_log.specs.LogPart.{at_stage, with_own, log_step, IsForNumbers}
 use Rattle.replicated_log.specs.LogTexts.{values_line, keep_line, commands_line, commands_lines}
@@ -40,7 +40,7 @@ commands_plain : IsPlain (codes "commands")
 commands_plain = record { some = omega arith; above = refl }
 
 -- how the part is read on
-abbrev read_on : LogSoFar → (taken number : ℕ) → List ℕ → Result (Found LogSaid) (At Rule)
+abbrev read_on : LogSoFar → (taken number : ℕ) → List ℕ → Result (Found LogContent) (At Rule)
 read_on s taken number text =
     part_from (with_skips log_step Form) Form s taken number (lines_of text)
 
@@ -52,7 +52,7 @@ commands_pass values v [] some few range = absurd (omega arith)
 commands_pass values v (c ∷ cs) some few range =
     rw (le-ltb 16 (length (c ∷ cs)) few, eq-eqb v v refl, range) refl
 
-module _ (numbers : Numbers) (fine : AreNumbers numbers) (said : LogSaid)
+module _ (numbers : Numbers) (fine : AreNumbers numbers) (said : LogContent)
     (for : IsForNumbers numbers said) (short : All (λ own. length own ≤ 16) said.commands) where
   abbrev whole : Bool
   whole = numbers.modulus % (numbers.nodes * entry_length numbers.faults) == 0

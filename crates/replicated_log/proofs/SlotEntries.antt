@@ -29,7 +29,7 @@ use Rattle.layer_laws.proofs.CounterSlots.{counts_of, slots_agree_over}
 use Rattle.layer_laws.proofs.PlanCounters.{borne_by_counter, plans_settle}
 use Rattle.replicated_log.specs.declared.entries.Entry.{Entry}
 use Rattle.replicated_log.specs.EntryLength.{entry_length, owner_at, command_at}
-use Rattle.replicated_log.specs.LogSaid.{LogSaid}
+use Rattle.replicated_log.specs.LogContent.{LogContent}
 use Rattle.replicated_log.specs.Logs.{agreement_after, log_layer_over}
 use Rattle.replicated_log.specs.PutEntries.{PutsOneOver, HasEntriesOver, commands_in_turn_over}
 use Rattle.replicated_log.specs.PutEntries.{EverySlotPutsOneOver, EverySlotPutsOne}
@@ -251,7 +251,7 @@ module _ {Kept : Type 0} (counter : Meaning) (is_state : (v : ℕ) → State →
     }
 
 -- the layer of nodes that take their commands in turn
-pub takes_turns : (counter : Meaning) (said : LogSaid) (first : ℕ)
+pub takes_turns : (counter : Meaning) (said : LogContent) (first : ℕ)
     → IsLogging counter (log_layer_over (numbers_in counter) said) said.keep (λ log. log)
     (commands_in_turn_over counter said) first
 takes_turns counter said first = record {

@@ -2,7 +2,7 @@
 use Rattle.std.specs.Prelude.{ℕ, ◌+◌, ◌-◌, ◌<◌, ◌≤◌, List, [], ◌∷◌, length, slice_index_or}
 use Rattle.sync_types.specs.States.{State}
 use Rattle.construction.specs.Plans.{Plan, plan_faults, plan_bound}
-use Rattle.construction.specs.Runs.{IsBorne}
+use Rattle.construction.specs.Runs.{IsToleratedBy}
 use Rattle.plan_numbers.specs.Premises.{IsAccepted}
 use Rattle.counter_core.specs.Meanings.{Meaning}
 use Rattle.counter_core.specs.Overlays.{Layer}
@@ -94,7 +94,7 @@ ChangingLogsAreOneOver counter is_state = IsSettling counter is_state → HasEnt
 -- So it is in every run of an accepted plan.
 abbrev pub ChangingCommandsPutOne : Type 0
 ChangingCommandsPutOne = (plan : Plan) → IsAccepted plan → HasEntries plan
-    → (values keep : ℕ) (command : (v t : ℕ) → ℕ) (faulty : List ℕ) → IsBorne plan faulty
+    → (values keep : ℕ) (command : (v t : ℕ) → ℕ) (faulty : List ℕ) → IsToleratedBy plan faulty
     → (first : ℕ) (run : List (Scene Noted))
     → LayerRun plan (changing_layer plan values keep command) faulty first run
     → (t : ℕ) → plan_bound plan ≤ t → t + entry_length (plan_faults plan) < length run
@@ -103,7 +103,7 @@ ChangingCommandsPutOne = (plan : Plan) → IsAccepted plan → HasEntries plan
 
 abbrev pub ChangingLogsAreOne : Type 0
 ChangingLogsAreOne = (plan : Plan) → IsAccepted plan → HasEntries plan
-    → (values keep : ℕ) (command : (v t : ℕ) → ℕ) (faulty : List ℕ) → IsBorne plan faulty
+    → (values keep : ℕ) (command : (v t : ℕ) → ℕ) (faulty : List ℕ) → IsToleratedBy plan faulty
     → (first : ℕ) (run : List (Scene Noted))
     → LayerRun plan (changing_layer plan values keep command) faulty first run
     → (t : ℕ) → plan_bound plan ≤ t → t < length run

@@ -3,7 +3,7 @@ pub mod EntryLength
 pub mod LogLaws
 pub mod LogPart
 pub mod LogReadings
-pub mod LogSaid
+pub mod LogContent
 pub mod Logs
 pub mod LogsSeen
 pub mod PutEntries

@@ -14,7 +14,7 @@ use Rattle.construction.specs.Plans.{Plan}
 use Rattle.layer_laws.specs.Numbers.{Numbers, numbers_of as plan_numbers}
 use Rattle.consensus_layer.specs.PartLines.{head_tested, number_within}
 use Rattle.replicated_log.specs.EntryLength.{entry_length}
-use Rattle.replicated_log.specs.LogSaid.{LogSaid}
+use Rattle.replicated_log.specs.LogContent.{LogContent}
 use Rattle.replicated_log.specs.declared.log_lines.LogStage.{LogStage}
 use Rattle.replicated_log.specs.declared.log_lines.LogStage.TheVariants.{Unread, Begun, Valued}
 use Rattle.replicated_log.specs.declared.log_lines.LogStage.TheVariants.{Keeping}
@@ -62,13 +62,13 @@ abbrev pub with_own : LogSoFar → List ℕ → LogSoFar
 with_own s own = record s { commands = s.commands ++ own ∷ [] }
 
 -- `end`, if each node has its line
-abbrev pub end_step : (values keep : ℕ) → LogSoFar → Next LogSoFar LogSaid Rule
+abbrev pub end_step : (values keep : ℕ) → LogSoFar → Next LogSoFar LogContent Rule
 end_step values keep s =
     if nat_lt (length s.commands) s.nodes then refuses Form
     else ends (record { values = values; keep = keep; commands = s.commands })
 
 -- a line after those that were read
-abbrev pub step_at : LogStage → LogSoFar → List ℕ → Next LogSoFar LogSaid Rule
+abbrev pub step_at : LogStage → LogSoFar → List ℕ → Next LogSoFar LogContent Rule
 step_at Unread s line =
     goes_on (λ _. at_stage s Begun) (head_tested (codes "log 1") s.whole line)
 step_at Begun s line =
@@ -79,13 +79,13 @@ step_at (Keeping values keep) s line =
     if bytes_eq line (codes "end") then end_step values keep s
     else goes_on (with_own s) (commands_in values s.nodes (length s.commands) line)
 
-abbrev pub log_step : LogSoFar → List ℕ → Next LogSoFar LogSaid Rule
+abbrev pub log_step : LogSoFar → List ℕ → Next LogSoFar LogContent Rule
 log_step s line = step_at s.stage s line
 
 -- The log part for a counter at the beginning of these lines, of which the first has that number:
 -- what it says, how many lines it took through `end`, and the lines after it; or the first line
 -- that fails, with the first rule that it fails.
-abbrev pub part_over : Numbers → (number : ℕ) → List (List ℕ) → Result (Found LogSaid) (At Rule)
+abbrev pub part_over : Numbers → (number : ℕ) → List (List ℕ) → Result (Found LogContent) (At Rule)
 part_over numbers number lines =
     part_from (with_skips log_step Form) Form (nothing_read_over numbers) 0 number lines
 
@@ -93,7 +93,7 @@ part_over numbers number lines =
 abbrev pub nothing_read : Plan → LogSoFar
 nothing_read plan = nothing_read_over (plan_numbers plan)
 
-abbrev pub part_of : Plan → (number : ℕ) → List (List ℕ) → Result (Found LogSaid) (At Rule)
+abbrev pub part_of : Plan → (number : ℕ) → List (List ℕ) → Result (Found LogContent) (At Rule)
 part_of plan = part_over (plan_numbers plan)
 
 -- each node has a command, and each command is below the values
@@ -102,7 +102,7 @@ AreInRange values commands =
     All (λ own. (0 < length own) × All (λ a. a < values) own) commands
 
 -- what a log part says that was read for a counter
-pub record IsForNumbers (numbers : Numbers) (said : LogSaid) : Type 0 where
+pub record IsForNumbers (numbers : Numbers) (said : LogContent) : Type 0 where
   pub whole : numbers.modulus % (numbers.nodes * entry_length numbers.faults) ≡ 0
   pub two : 2 ≤ said.values
   pub few : said.values ≤ 65536
@@ -112,5 +112,5 @@ pub record IsForNumbers (numbers : Numbers) (said : LogSaid) : Type 0 where
   pub range : AreInRange said.values said.commands
 
 -- that for the counter of a plan
-abbrev pub IsFor : Plan → LogSaid → Type 0
-IsFor plan = IsForNumbers (plan_numbers plan)
+abbrev pub IsLogForPlan : Plan → LogContent → Type 0
+IsLogForPlan plan = IsForNumbers (plan_numbers plan)

@@ -8,11 +8,11 @@ use Rattle.layer_laws.specs.Numbers.{Numbers, numbers_of}
 use Rattle.replicated_log.specs.declared.replica.Replica.{Replica}
 use Rattle.replicated_log.specs.Logs.{log_layer_over}
 use Rattle.replicated_log.specs.LogsSeen.{layer_seen, logs_seen}
-use Rattle.replicated_log.specs.LogSaid.{LogSaid}
+use Rattle.replicated_log.specs.LogContent.{LogContent}
 use Rattle.replicated_log.specs.LogPart.{part_over}
 
 -- a log over a counter as it is said, with nothing in it
-pub record IsFreshOver (numbers : Numbers) (said : LogSaid) (replica : Replica) : Type 0 where
+pub record IsFreshOver (numbers : Numbers) (said : LogContent) (replica : Replica) : Type 0 where
   pub layer : layer_seen replica ≡ log_layer_over numbers said
   pub kept : logs_seen replica ≡ replicate numbers.nodes []
 

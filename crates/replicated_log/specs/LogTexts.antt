@@ -6,13 +6,13 @@ use Rattle.texts.specs.Words.{joined, text_of}
 use Rattle.construction.specs.Plans.{Plan}
 use Rattle.plan_numbers.specs.Premises.{IsAccepted}
 use Rattle.layer_laws.specs.Numbers.{Numbers, AreNumbers, numbers_of}
-use Rattle.replicated_log.specs.LogSaid.{LogSaid}
+use Rattle.replicated_log.specs.LogContent.{LogContent}
 use Rattle.replicated_log.specs.LogPart.{part_over, IsForNumbers}
 
-abbrev pub values_line : LogSaid → List ℕ
+abbrev pub values_line : LogContent → List ℕ
 values_line said = joined (codes "values" ∷ decimal said.values ∷ [])
 
-abbrev pub keep_line : LogSaid → List ℕ
+abbrev pub keep_line : LogContent → List ℕ
 keep_line said = joined (codes "keep" ∷ decimal said.keep ∷ [])
 
 -- what node v commands
@@ -25,7 +25,7 @@ commands_lines v [] = []
 commands_lines v (own ∷ commands) = commands_line v own ∷ commands_lines (v + 1) commands
 
 -- the part that says a log
-abbrev pub log_text : LogSaid → List ℕ
+abbrev pub log_text : LogContent → List ℕ
 log_text said =
     text_of (codes "log 1" ∷ values_line said ∷ keep_line said
     ∷ (commands_lines 0 said.commands ++ codes "end" ∷ []))
@@ -33,7 +33,7 @@ log_text said =
 -- The text of a log for a counter, whose nodes have at most 16 commands each, is read as this log,
 -- whatever text follows.
 abbrev pub IsReadBack : Numbers → Type 0
-IsReadBack numbers = (said : LogSaid) → IsForNumbers numbers said
+IsReadBack numbers = (said : LogContent) → IsForNumbers numbers said
     → All (λ own. length own ≤ 16) said.commands → (number : ℕ) (rest : List ℕ)
     → part_over numbers number (lines_of (log_text said ++ rest))
     ≡ Ok (record {

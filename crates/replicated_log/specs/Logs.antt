@@ -17,7 +17,7 @@ use Rattle.layer_laws.specs.Slots.{slot_length, agreed_in_turn}
 use Rattle.consensus_layer.specs.Agreeing.{loaded}
 use Rattle.replicated_log.specs.declared.entries.Entry.{Entry}
 use Rattle.replicated_log.specs.EntryLength.{entry_length, owner_at, command_at}
-use Rattle.replicated_log.specs.LogSaid.{LogSaid}
+use Rattle.replicated_log.specs.LogContent.{LogContent}
 
 -- The register of agreement after a round in which node v hears that: if the output is that of a
 -- slot's beginning, what the owner commands, as it is heard; else it takes a round of the slot.
@@ -59,23 +59,23 @@ log_layer_of nodes faults modulus depth values keep commands = record {
 }
 
 -- that over a counter, as a log part says
-abbrev pub log_layer_over : Numbers → LogSaid → Layer (List Entry)
+abbrev pub log_layer_over : Numbers → LogContent → Layer (List Entry)
 log_layer_over numbers said =
     log_layer_of numbers.nodes numbers.faults numbers.modulus numbers.depth said.values said.keep
     said.commands
 
 -- that over the counter of a plan
-abbrev pub log_layer : Plan → LogSaid → Layer (List Entry)
+abbrev pub log_layer : Plan → LogContent → Layer (List Entry)
 log_layer plan = log_layer_over (numbers_of plan)
 
 -- a run of a counter with a log, from any states and logs
-abbrev pub LogRunOver : (counter : Meaning) (is_state : (v : ℕ) → State → Type 0) → LogSaid
+abbrev pub LogRunOver : (counter : Meaning) (is_state : (v : ℕ) → State → Type 0) → LogContent
     → (faulty : List ℕ) (first : ℕ) (run : List (Scene (List Entry))) → Type 0
 LogRunOver counter is_state said =
     LayerRun counter is_state (log_layer_over (numbers_in counter) said)
 
 -- one of a plan
-abbrev pub LogRun : Plan → LogSaid → (faulty : List ℕ) (first : ℕ)
+abbrev pub LogRun : Plan → LogContent → (faulty : List ℕ) (first : ℕ)
     (run : List (Scene (List Entry))) → Type 0
 LogRun plan = LogRunOver (plan_meaning plan) (IsState plan)
 

@@ -4,7 +4,7 @@ use Rattle.std.specs.Prelude.{take, false}
 use Rattle.sync_types.specs.States.{State}
 use Rattle.construction.specs.Plans.{Plan, plan_faults, plan_bound}
 use Rattle.construction.specs.Steps.{state_of}
-use Rattle.construction.specs.Runs.{is_in, IsBorne}
+use Rattle.construction.specs.Runs.{is_in, IsToleratedBy}
 use Rattle.plan_numbers.specs.Premises.{IsAccepted}
 use Rattle.plan_laws.specs.PlanMeaning.{plan_meaning}
 use Rattle.counter_core.specs.Meanings.{Meaning}
@@ -15,7 +15,7 @@ use Rattle.layer_laws.specs.CounterSlots as counters
 use Rattle.layer_laws.specs.Slots.{slot_length, AllAre}
 use Rattle.replicated_log.specs.declared.entries.Entry.{Entry}
 use Rattle.replicated_log.specs.EntryLength.{entry_length, owner_at, command_at}
-use Rattle.replicated_log.specs.LogSaid.{LogSaid}
+use Rattle.replicated_log.specs.LogContent.{LogContent}
 use Rattle.replicated_log.specs.Logs.{LogRunOver, LogRun, log_of}
 
 -- Of a run of a counter in which each node keeps a log of so many of its newest entries. In the
@@ -65,7 +65,7 @@ abbrev pub HasEntriesOver : Meaning → Type 0
 HasEntriesOver counter = counter.modulus % (counter.nodes * entry_length counter.faults) ≡ 0
 
 -- what nodes command that take their commands in turn
-abbrev pub commands_in_turn_over : Meaning → LogSaid → (t v slot : ℕ) → ℕ
+abbrev pub commands_in_turn_over : Meaning → LogContent → (t v slot : ℕ) → ℕ
 commands_in_turn_over counter said t v slot =
     command_at counter.nodes counter.faults said.commands v slot
 
@@ -73,7 +73,7 @@ commands_in_turn_over counter said t v slot =
 -- ends within the run puts one entry.
 abbrev pub EverySlotPutsOneOver : (counter : Meaning) (is_state : (v : ℕ) → State → Type 0) → Type 0
 EverySlotPutsOneOver counter is_state = IsSettling counter is_state → HasEntriesOver counter
-    → (said : LogSaid) (faulty : List ℕ) → Bears counter faulty
+    → (said : LogContent) (faulty : List ℕ) → Bears counter faulty
     → (first : ℕ) (run : List (Scene (List Entry)))
     → LogRunOver counter is_state said faulty first run
     → (t : ℕ) → counter.bound ≤ t → t + entry_length counter.faults < length run
@@ -84,7 +84,7 @@ EverySlotPutsOneOver counter is_state = IsSettling counter is_state → HasEntri
 -- later.
 abbrev pub LogsAreOneOver : (counter : Meaning) (is_state : (v : ℕ) → State → Type 0) → Type 0
 LogsAreOneOver counter is_state = IsSettling counter is_state → HasEntriesOver counter
-    → (said : LogSaid) (faulty : List ℕ) → Bears counter faulty
+    → (said : LogContent) (faulty : List ℕ) → Bears counter faulty
     → (first : ℕ) (run : List (Scene (List Entry)))
     → LogRunOver counter is_state said faulty first run
     → (t : ℕ) → counter.bound ≤ t → t < length run
@@ -105,14 +105,14 @@ module _ {Kept : Type 0} (plan : Plan) (keep : ℕ) (log : Scene Kept → (v : �
 abbrev pub HasEntries : Plan → Type 0
 HasEntries plan = HasEntriesOver (plan_meaning plan)
 
-abbrev pub commands_in_turn : Plan → LogSaid → (t v slot : ℕ) → ℕ
+abbrev pub commands_in_turn : Plan → LogContent → (t v slot : ℕ) → ℕ
 commands_in_turn plan = commands_in_turn_over (plan_meaning plan)
 
 -- In every run with a log of an accepted plan, each slot that begins at the bound or later and ends
 -- within the run puts one entry.
 abbrev pub EverySlotPutsOne : Type 0
 EverySlotPutsOne = (plan : Plan) → IsAccepted plan → HasEntries plan
-    → (said : LogSaid) (faulty : List ℕ) → IsBorne plan faulty
+    → (said : LogContent) (faulty : List ℕ) → IsToleratedBy plan faulty
     → (first : ℕ) (run : List (Scene (List Entry))) → LogRun plan said faulty first run
     → (t : ℕ) → plan_bound plan ≤ t → t + entry_length (plan_faults plan) < length run
     → AllAre plan faulty (scene run t).states (entry_length (plan_faults plan)) 0
@@ -121,7 +121,7 @@ EverySlotPutsOne = (plan : Plan) → IsAccepted plan → HasEntries plan
 -- In every run with a log of an accepted plan, from any slot on that begins at the bound or later.
 abbrev pub LogsAreOne : Type 0
 LogsAreOne = (plan : Plan) → IsAccepted plan → HasEntries plan
-    → (said : LogSaid) (faulty : List ℕ) → IsBorne plan faulty
+    → (said : LogContent) (faulty : List ℕ) → IsToleratedBy plan faulty
     → (first : ℕ) (run : List (Scene (List Entry))) → LogRun plan said faulty first run
     → (t : ℕ) → plan_bound plan ≤ t → t < length run
     → AllAre plan faulty (scene run t).states (entry_length (plan_faults plan)) 0

@@ -8,7 +8,7 @@ ghost use Rattle.replicated_log.specs.ChangingCommands.{ChangingLogsAreOneOver};
 ghost use Rattle.replicated_log.specs.ChangingCommands.{ChangingCommandsPutOne, ChangingLogsAreOne};
 ghost use Rattle.replicated_log.specs.PutEntries.{EverySlotPutsOneOver, LogsAreOneOver};
 ghost use Rattle.replicated_log.specs.PutEntries.{EverySlotPutsOne, LogsAreOne};
-ghost use Rattle.replicated_log.specs.LogPart.{part_over, part_of, IsForNumbers, IsFor};
+ghost use Rattle.replicated_log.specs.LogPart.{part_over, part_of, IsForNumbers, IsLogForPlan};
 ghost use Rattle.replicated_log.specs.LogTexts.{LogTextIsReadOver, LogTextIsRead};
 
 use layer_laws::AnyCounter;
@@ -69,7 +69,7 @@ pub fn log_fits_over()
 /// So it is for a plan's counter.
 pub fn log_fits()
     ensures { (plan : Plan) (number : ℕ) (lines : List (List ℕ))
-        → IfOk (part_of plan number lines) (λ found. IsFor plan found.value) }
+        → IfOk (part_of plan number lines) (λ found. IsLogForPlan plan found.value) }
 {}
 
 /// The text of a log for a counter, whose nodes have at most 16 commands each, is read as this log,

@@ -13,9 +13,9 @@ pub struct LogPart {
 }
 
 impl Model for LogPart {
-    ghost use Rattle.replicated_log.specs.LogSaid.{LogSaid};
+    ghost use Rattle.replicated_log.specs.LogContent.{LogContent};
 
-    ghost Value = { LogSaid };
+    ghost Value = { LogContent };
 
     ghost view = { λ p. record {
       values = p.values;

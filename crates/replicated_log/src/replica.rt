@@ -1,7 +1,7 @@
 ghost use Rattle.std.specs.Prelude.{◌≡◌, ◌+◌, ◌*◌, ◌^◌, ◌<◌, ◌≤◌, List, [], ◌∷◌, length, map};
 ghost use Rattle.std.specs.Prelude.{replicate, take, slice_set, slice_index_or, All, IfOk};
 ghost use Rattle.circular_buffer.specs.Buffer.{buffer};
-ghost use Rattle.counter_core.specs.Working.{IsFor, IsAsRoomy};
+ghost use Rattle.counter_core.specs.Working.{IsWorkFor, IsAsRoomy};
 ghost use Rattle.replicated_log.specs.EntryLength.{entry_length, owner_at, command_at};
 ghost use Rattle.replicated_log.specs.LogPart.{AreInRange};
 ghost use Rattle.replicated_log.specs.Logs.{agreement_after};
@@ -165,7 +165,7 @@ impl Replica {
         requires node { node < self.now.nodes }
         requires heard { length heard.now ≡ self.now.nodes }
         requires deep { All (λ s. self.now.depth + 2 ≤ length s.registers) heard.now }
-        requires work { IsFor self.now.nodes work.old }
+        requires work { IsWorkFor self.now.nodes work.old }
         ensures register { result
             ≡ agreement_after self.now.nodes self.now.faults self.now.depth node output heard.now }
         ensures work { IsAsRoomy work.old work.new }

@@ -11,7 +11,8 @@ use Rattle.sync_types.specs.States.{State, register_at, zero_register}
 use Rattle.construction.specs.Plans.{Level, Plan, plan_nodes, plan_faults, plan_modulus, plan_depth}
 use Rattle.construction.specs.Shown.{shown}
 use Rattle.construction.specs.Steps.{state_of}
-use Rattle.construction.specs.Runs.{is_in, IsBorne, IsConfiguration, Run, IsLocked, IsLockedIn}
+use Rattle.construction.specs.Runs.{is_in, IsToleratedBy, IsConfiguration, Run, IsLocked}
+use Rattle.construction.specs.Runs.{IsLockedIn}
 use Rattle.construction.specs.Runs.{configuration}
 use Rattle.plan_numbers.specs.Premises.{IsAccepted}
 use Rattle.plan_numbers.proofs.Accepted.{accepted_sized}
@@ -27,7 +28,7 @@ use Rattle.adversary_script.specs.Eras.{era_of, first_of_era, end_of_era, faulty
 use Rattle.layer_laws.specs.Scenes.{Scene}
 use Rattle.round_runner.specs.Known.{lowest_correct, CountsOn}
 use Rattle.round_runner.specs.Locks.{IsFirstLocked}
-use Rattle.round_runner.specs.Runners.{Running, IsFor, IsPlaying, configuration_of}
+use Rattle.round_runner.specs.Runners.{Running, IsPlayableOn, IsPlaying, configuration_of}
 use Rattle.machine_runner.proofs.Eras.{of_each_era, counts_on}
 use Rattle.machine_runner.proofs.Firsts.{in_era, era_within}
 use Rattle.layer_laws.proofs.LowestCorrect.{lowest_leads}
@@ -62,7 +63,8 @@ cut_locked (level ∷ below) faulty config locked =
     }
 
 module _ {Kept : Type 0} (plan : Plan) (script : Script) (layer : Layer Kept) (began : List Kept)
-    (accepted : IsAccepted plan) (right : IsFor plan layer script) (sound : IsShape script.shape)
+    (accepted : IsAccepted plan) (right : IsPlayableOn plan layer script)
+    (sound : IsShape script.shape)
     (whole : IsScript script) (j : ℕ) (among : j ≤ length script.eras) where
   abbrev faulty : List ℕ
   faulty = faulty_of_era script j
@@ -83,8 +85,8 @@ module _ {Kept : Type 0} (plan : Plan) (script : Script) (layer : Layer Kept) (b
   abbrev lead : ℕ
   lead = lowest_correct (plan_nodes plan) faulty
 
-  borne : IsBorne plan faulty
-  borne = of_each_era (IsBorne plan) script j among right.borne
+  borne : IsToleratedBy plan faulty
+  borne = of_each_era (IsToleratedBy plan) script j among right.borne
 
   leads : (lead < plan_nodes plan) × (is_in faulty lead ≡ false)
   leads = lowest_leads (plan_nodes plan) (plan_faults plan) faulty
@@ -159,7 +161,7 @@ module _ {Kept : Type 0} (plan : Plan) (script : Script) (layer : Layer Kept) (b
 
 -- what a runner shows counts, if it knows a locked configuration of its era
 module _ {O Kept : Type 0} (layer : O → Layer Kept) (kept : O → List Kept) (r : Running O)
-    (accepted : IsAccepted r.plan) (right : IsFor r.plan (layer r.overlay) r.script)
+    (accepted : IsAccepted r.plan) (right : IsPlayableOn r.plan (layer r.overlay) r.script)
     (sound : IsShape r.script.shape) (whole : IsScript r.script)
     (within : r.at ≤ r.script.rounds) where
   abbrev era : ℕ
@@ -198,7 +200,7 @@ module _ {O Kept : Type 0} (layer : O → Layer Kept) (kept : O → List Kept) (
 -- the same, by what is kept of the runner
 pub view_counts : {O Kept : Type 0} (layer : O → Layer Kept) (kept : O → List Kept)
     (view r : Running O) → view ≡ r → IsAccepted view.plan
-    → IsFor view.plan (layer view.overlay) view.script → IsShape view.script.shape
+    → IsPlayableOn view.plan (layer view.overlay) view.script → IsShape view.script.shape
     → IsScript view.script → view.at ≤ view.script.rounds
     → is_some (slice_index_or r.locks (era_of r.script r.at) None) ≡ true → (began : List Kept)
     → IsPlaying layer kept began r
@@ -207,7 +209,7 @@ pub view_counts : {O Kept : Type 0} (layer : O → Layer Kept) (kept : O → Lis
     (lowest_correct (plan_nodes r.plan) (faulty_of_era r.script (era_of r.script r.at)))))
 view_counts layer kept view r is accepted right sound whole within = runner_counts layer kept r
     (subst (λ (r : Running _). IsAccepted r.plan) is accepted)
-    (subst (λ (r : Running _). IsFor r.plan (layer r.overlay) r.script) is right)
+    (subst (λ (r : Running _). IsPlayableOn r.plan (layer r.overlay) r.script) is right)
     (subst (λ (r : Running _). IsShape r.script.shape) is sound)
     (subst (λ (r : Running _). IsScript r.script) is whole)
     (subst (λ (r : Running _). r.at ≤ r.script.rounds) is within)

@@ -7,7 +7,7 @@ use Rattle.sync_types.specs.States.{State, zero_state}
 use Rattle.construction.specs.Plans.{Plan, plan_nodes, plan_bound, plan_modulus}
 use Rattle.construction.specs.Steps.{state_of, step_of}
 use Rattle.construction.specs.Runs.{IsState, IsConfiguration, IsTold, IsTable, Round, IsNext, Run}
-use Rattle.construction.specs.Runs.{heard_by, IsBorne, AllShow, IsLocked, CountsFrom}
+use Rattle.construction.specs.Runs.{heard_by, IsToleratedBy, AllShow, IsLocked, CountsFrom}
 use Rattle.construction.proofs.Ranges.{step_is_state}
 use Rattle.plan_laws.proofs.PlanCounter.{positive}
 use Rattle.plan_laws.specs.Laws.{EveryPlanSettles, LocksAtBound, LockedRunsCount}
@@ -130,8 +130,8 @@ module _ (plan : Plan) (s : Script) (is : IsReadFor plan s) where
           (λ t low high. record { lies = lies_at s t (at t); round = round_in t low high });
     }
 
-    borne_in : IsBorne plan (faulty_of_era s j)
-    borne_in = of_each_era (IsBorne plan) s j le is.right.borne
+    borne_in : IsToleratedBy plan (faulty_of_era s j)
+    borne_in = of_each_era (IsToleratedBy plan) s j le is.right.borne
 
     counts_from : (from : ℕ) → CountsFrom plan (faulty_of_era s j) (era_run plan s j) from
         → EraCountsFrom plan s j (first_of_era s j + from)

@@ -34,8 +34,8 @@ use Rattle.adversary_script.specs.Scripts.{Script}
 use Rattle.adversary_script.specs.ScriptPart as part
 use Rattle.adversary_script.specs.Lies.{fitted_register, fitted}
 use Rattle.adversary_script.proofs.Fitted.{fitted_in_range}
-use Rattle.round_runner.specs.Fits.{Fits}
-use Rattle.round_runner.specs.Runners.{IsFor}
+use Rattle.round_runner.specs.Fits.{ShapeFits}
+use Rattle.round_runner.specs.Runners.{IsPlayableOn}
 
 -- a register that a node has is below its modulus, and one that is below it is the node's
 finite_below : (modulus : ℕ) (r : Reg) → 1 ≤ modulus → IsField modulus r
@@ -225,10 +225,11 @@ module _ {Kept : Type 0} (plan : Plan) (layer : Layer Kept) (accepted : IsAccept
 
 pub layer_fits : {Kept : Type 0} (plan : Plan) (layer : Layer Kept) (shape : Shape)
     → IsAccepted plan → shape ≡ shape_with plan layer.values layer.extra → IsShape shape
-    → LayerFits layer (plan_meaning plan) → Fits shape (plan_meaning plan) (IsInRange plan) layer
+    → LayerFits layer (plan_meaning plan)
+    → ShapeFits shape (plan_meaning plan) (IsInRange plan) layer
 layer_fits plan layer states accepted is sound over =
     let whole : IsShape (shape_with plan layer.values layer.extra) = subst IsShape is sound in
-    subst (λ (s : Shape). Fits s (plan_meaning plan) (IsInRange plan) layer) (sym is) (record {
+    subst (λ (s : Shape). ShapeFits s (plan_meaning plan) (IsInRange plan) layer) (sym is) (record {
       nodes = nodes_of_shape plan (moduli_of plan.levels ++ replicate layer.extra layer.values);
       depth = long plan layer accepted whole;
       counts = λ v node s range. counts plan layer accepted whole v node s range;
@@ -246,7 +247,8 @@ no_further plan values count none =
 
 -- a script that was read for a plan is one to play with a layer that has no registers
 pub without_registers : {Kept : Type 0} (plan : Plan) (script : Script) (layer : Layer Kept)
-    → layer.extra ≡ 0 → part.IsFor plan (shape_of plan) script → IsFor plan layer script
+    → layer.extra ≡ 0 → part.IsScriptForPlan plan (shape_of plan) script
+    → IsPlayableOn plan layer script
 without_registers plan script layer none is = record {
   nodes = is.nodes;
   shape = is.states ∙ no_further plan layer.values layer.extra none;
@@ -255,6 +257,7 @@ without_registers plan script layer none is = record {
 }
 
 -- so it is one to play without a layer
-pub without_layer : (plan : Plan) (script : Script) → part.IsFor plan (shape_of plan) script
-    → IsFor plan no_layer script
+pub without_layer : (plan : Plan) (script : Script)
+    → part.IsScriptForPlan plan (shape_of plan) script
+    → IsPlayableOn plan no_layer script
 without_layer plan script is = without_registers plan script no_layer refl is

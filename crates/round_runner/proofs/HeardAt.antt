@@ -9,14 +9,15 @@ use Rattle.adversary_script.specs.Lies.{AreStates}
 use Rattle.adversary_script.proofs.LiesInRange.{depth_of_node}
 use Rattle.machine_runner.proofs.HeardAt.{heard_long, heard_range}
 use Rattle.machine_runner.proofs.Places.{all_places}
-use Rattle.round_runner.specs.Fits.{Fits}
+use Rattle.round_runner.specs.Fits.{ShapeFits}
 use Rattle.round_runner.specs.Played.{heard_at}
 
 module _ (script : Script) (t : ℕ) (config : List State) (v : ℕ) (whole : IsScript script)
     (sound : IsShape script.shape) (node : v < script.nodes)
     (range : AreStates script.nodes script.shape config) {Kept : Type 0} (counter : Meaning)
     (in_range : State → Type 0) (layer : Layer Kept)
-    (fits : Fits script.shape counter in_range layer) (nodes : counter.nodes ≡ script.nodes) where
+    (fits : ShapeFits script.shape counter in_range layer)
+    (nodes : counter.nodes ≡ script.nodes) where
   long : length (heard_at script t config v) ≡ script.nodes
   long = heard_long script t config v
 

@@ -20,7 +20,7 @@ use Rattle.adversary_script.specs.Lies.{AreStates}
 use Rattle.machine_runner.proofs.Keeping.{range_of}
 use Rattle.round_runner.specs.declared.stepping.RoundBuffers.{RoundBuffers}
 use Rattle.round_runner.specs.declared.turns.NodeStep.{NodeStep}
-use Rattle.round_runner.specs.Fits.{Fits}
+use Rattle.round_runner.specs.Fits.{ShapeFits}
 use Rattle.round_runner.specs.Hearing.{AreOfNodes}
 use Rattle.round_runner.specs.Played.{heard_at}
 use Rattle.round_runner.specs.Turns.{IsRound, IsSet}
@@ -39,7 +39,7 @@ pub record CanTurn {Kept : Type 0} (plan : Plan) (script : Script) (layer : Laye
   pub whole : IsScript script
   pub sound : IsShape script.shape
   pub keeps : KeepsRange layer
-  pub fits : Fits script.shape (plan_meaning plan) (IsInRange plan) layer
+  pub fits : ShapeFits script.shape (plan_meaning plan) (IsInRange plan) layer
   pub over : LayerFits layer (plan_meaning plan)
   pub deaf : IsDeaf layer
   pub nodes : script.nodes ≡ plan_nodes plan
@@ -72,7 +72,7 @@ can_turn layer turn room is set keeps deaf sound range =
 
 module _ {Kept : Type 0} (plan : Plan) (script : Script) (layer : Layer Kept) (kept : List Kept)
     (t v : ℕ) (config : List State) (can : CanTurn plan script layer v config) where
-  abbrev fits : Fits script.shape (plan_meaning plan) (IsInRange plan) layer
+  abbrev fits : ShapeFits script.shape (plan_meaning plan) (IsInRange plan) layer
   fits = can.fits
 
   abbrev over : LayerFits layer (plan_meaning plan)

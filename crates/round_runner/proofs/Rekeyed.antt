@@ -9,15 +9,16 @@ use Rattle.machine_runner.specs.FirstLocked.{begun_locks}
 use Rattle.machine_runner.proofs.Firsts.{begun_era}
 use Rattle.machine_runner.proofs.Rekeyed.{rekeyed, whole_still}
 use Rattle.round_runner.specs.declared.stepping.RoundBuffers.{RoundBuffers}
-use Rattle.round_runner.specs.Kept.{IsKept}
+use Rattle.round_runner.specs.Kept.{IsValidRunner}
 use Rattle.round_runner.specs.Rooms.{IsReady}
 use Rattle.round_runner.specs.Played.{starts}
 use Rattle.round_runner.specs.Locks.{is_locked}
-use Rattle.round_runner.specs.Runners.{IsFor, Running, begun}
+use Rattle.round_runner.specs.Runners.{IsPlayableOn, Running, begun}
 
 module _ (script : Script) (key : List ℕ) where
-  pub right_still : {Kept : Type 0} (plan : Plan) (layer : Layer Kept) → IsFor plan layer script
-      → IsFor plan layer (rekeyed script key)
+  pub right_still : {Kept : Type 0} (plan : Plan) (layer : Layer Kept)
+      → IsPlayableOn plan layer script
+      → IsPlayableOn plan layer (rekeyed script key)
   right_still plan layer right = record {
     nodes = right.nodes;
     shape = right.shape;
@@ -45,10 +46,11 @@ module _ (script : Script) (key : List ℕ) where
   kept_at_first : {Kept : Type 0} (plan : Plan) (layer : Layer Kept) (room : RoundBuffers)
       (noise : List ℕ)
       (out : State) (states now : Pack) (locks begun : List (Option ℕ)) (at era : ℕ)
-      → IsKept plan script layer room states locks at era → noise ≡ key
+      → IsValidRunner plan script layer room states locks at era → noise ≡ key
       → length out.registers ≡ script.shape.depth → now.shape ≡ states.shape
       → length now.current ≡ script.nodes → length begun ≡ length locks
-      → IsKept plan (rekeyed script key) layer (record room { noise = noise; out = out }) now begun
+      → IsValidRunner plan (rekeyed script key) layer
+      (record room { noise = noise; out = out }) now begun
       0 0
   kept_at_first plan layer room noise out states now locks begun at era kept is deep shape size
       long =
@@ -70,14 +72,15 @@ module _ (script : Script) (key : List ℕ) where
       (noise : List ℕ)
       (out : State) (states now : Pack) (locks begun : List (Option ℕ)) (at era : ℕ)
       (other : Script) → other ≡ rekeyed script key
-      → IsKept plan script layer room states locks at era → noise ≡ key
+      → IsValidRunner plan script layer room states locks at era → noise ≡ key
       → length out.registers ≡ script.shape.depth → now.shape ≡ states.shape
       → length now.current ≡ script.nodes → length begun ≡ length locks
-      → IsKept plan other layer (record room { noise = noise; out = out }) now begun 0 0
+      → IsValidRunner plan other layer (record room { noise = noise; out = out }) now begun 0 0
   kept_anew plan layer room noise out states now locks begun at era other same kept is deep shape
       size long =
       subst
-      (λ (s : Script). IsKept plan s layer (record room { noise = noise; out = out }) now begun
+      (λ (s : Script). IsValidRunner plan s layer
+      (record room { noise = noise; out = out }) now begun
       0 0) (sym same)
       (kept_at_first plan layer room noise out states now locks begun at era kept is deep shape size
       long)

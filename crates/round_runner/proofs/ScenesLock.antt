@@ -7,7 +7,7 @@ use Rattle.std.proofs.lemmas.List.{get_or-take}
 use Rattle.sync_types.specs.States.{State, register_at, zero_register}
 use Rattle.construction.specs.Plans.{Level, Plan, plan_bound}
 use Rattle.construction.specs.Steps.{state_of}
-use Rattle.construction.specs.Runs.{IsBorne, IsLocked, IsLockedIn}
+use Rattle.construction.specs.Runs.{IsToleratedBy, IsLocked, IsLockedIn}
 use Rattle.plan_numbers.specs.Premises.{IsAccepted}
 use Rattle.plan_laws.proofs.Ranges.{state_of-cut}
 use Rattle.plan_laws.proofs.RunLaws.{locks_at_bound}
@@ -18,7 +18,7 @@ use Rattle.adversary_script.specs.Scripts.{Script, IsScript}
 use Rattle.adversary_script.specs.Eras.{first_of_era, end_of_era, faulty_of_era}
 use Rattle.round_runner.specs.Laws.{IsUpTo}
 use Rattle.round_runner.specs.Locks.{is_locked, first_locked, era_locked, IsFirstLocked}
-use Rattle.round_runner.specs.Runners.{Running, IsFor, IsPlaying, configuration_of}
+use Rattle.round_runner.specs.Runners.{Running, IsPlayableOn, IsPlaying, configuration_of}
 use Rattle.machine_runner.proofs.Eras.{of_each_era}
 use Rattle.machine_runner.proofs.FirstPassing.{first_locked_below}
 use Rattle.machine_runner.proofs.Firsts.{in_era}
@@ -45,11 +45,12 @@ uncut_locked (level ∷ below) faulty config locked =
     }
 
 module _ {Kept : Type 0} (plan : Plan) (script : Script) (layer : Layer Kept) (began : List Kept)
-    (accepted : IsAccepted plan) (right : IsFor plan layer script) (sound : IsShape script.shape)
+    (accepted : IsAccepted plan) (right : IsPlayableOn plan layer script)
+    (sound : IsShape script.shape)
     (whole : IsScript script)
     (j : ℕ) (among : j ≤ length script.eras) where
-  borne : IsBorne plan (faulty_of_era script j)
-  borne = of_each_era (IsBorne plan) script j among right.borne
+  borne : IsToleratedBy plan (faulty_of_era script j)
+  borne = of_each_era (IsToleratedBy plan) script j among right.borne
 
   -- the scene of an era at the bound is locked
   scene_locked : first_of_era script j + plan_bound plan < end_of_era script j
@@ -103,7 +104,7 @@ module _ {O Kept : Type 0} (layer : O → Layer Kept) (kept : O → List Kept) (
       (configuration_of layer began r) j r.at) (sym (known_is began plays))
       (first_is_locked r.plan r.script (configuration_of layer began r) whole j r.at among within)
 
-  pub known_by_bound : IsAccepted r.plan → IsFor r.plan (layer r.overlay) r.script
+  pub known_by_bound : IsAccepted r.plan → IsPlayableOn r.plan (layer r.overlay) r.script
       → IsShape r.script.shape → (began : List Kept) → IsPlaying layer kept began r
       → first_of_era r.script j + plan_bound r.plan < end_of_era r.script j
       → first_of_era r.script j + plan_bound r.plan ≤ r.at

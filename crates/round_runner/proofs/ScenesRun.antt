@@ -28,7 +28,7 @@ use Rattle.adversary_script.specs.Lookup.{hit_at}
 use Rattle.adversary_script.specs.Lies.{fitted, start_of, lie_of}
 use Rattle.adversary_script.proofs.LiesInRange.{starts_in_range, lies_have}
 use Rattle.round_runner.specs.Played.{heard_at}
-use Rattle.round_runner.specs.Runners.{IsFor}
+use Rattle.round_runner.specs.Runners.{IsPlayableOn}
 use Rattle.layer_laws.specs.PlayedScenes.{begun_kept, layer_step, new_state, state_behind, scene_at}
 use Rattle.round_runner.proofs.Fitting.{front_is, fitted_is}
 use Rattle.machine_runner.proofs.Firsts.{in_era, none_inside, none_hit}
@@ -109,7 +109,7 @@ module _ {Kept : Type 0} (plan : Plan) (script : Script) (layer : Layer Kept)
   cut_configuration first count i lt = get_or-map-range_with_len
       (λ i. cut_at (first + i)) 0 count i i [] lt (omega arith)
 
-  module _ (accepted : IsAccepted plan) (right : IsFor plan layer script)
+  module _ (accepted : IsAccepted plan) (right : IsPlayableOn plan layer script)
       (sound : IsShape script.shape) (whole : IsScript script) where
     -- a state whose front is one of the plan's node
     abbrev HasFront : ℕ → State → Type 0

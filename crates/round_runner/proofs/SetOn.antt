@@ -8,7 +8,7 @@ use Rattle.counter_core.specs.Overlays.{Layer, LayerFits}
 use Rattle.adversary_script.specs.Eras.{faulty_at}
 use Rattle.round_runner.specs.declared.stepping.RoundBuffers.{RoundBuffers}
 use Rattle.round_runner.specs.declared.turns.Round.{Round}
-use Rattle.round_runner.specs.Fits.{Fits}
+use Rattle.round_runner.specs.Fits.{ShapeFits}
 use Rattle.round_runner.specs.Laying.{IsLaid}
 use Rattle.round_runner.specs.Rooms.{IsReady}
 use Rattle.round_runner.specs.Turns.{IsSet, IsGathered}
@@ -18,7 +18,7 @@ module _ {Kept : Type 0} (round : Round) (layer now : Layer Kept) (same : now �
       → next.current ≡ states.current → IsReady round.tower.now round.script.now later
       → IsSet round layer states room → IsSet round now next later
   set_on states next room later shape current ready set = record {
-    fits = subst (Fits round.script.now.shape (plan_meaning round.tower.now)
+    fits = subst (ShapeFits round.script.now.shape (plan_meaning round.tower.now)
         (IsInRange round.tower.now)) (sym same) set.fits;
     over = subst (λ (l : Layer Kept). LayerFits l (plan_meaning round.tower.now)) (sym same)
         set.over;

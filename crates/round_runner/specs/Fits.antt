@@ -14,7 +14,7 @@ use Rattle.adversary_script.specs.Scripts.{Script}
 
 -- A state of a node of the shape is one that the counter and the layer take, and a step of the node
 -- with registers of the layer after its own gives a state of it.
-pub record Fits {Kept : Type 0} (shape : Shape) (counter : Meaning) (in_range : State → Type 0)
+pub record ShapeFits {Kept : Type 0} (shape : Shape) (counter : Meaning) (in_range : State → Type 0)
     (layer : Layer Kept) : Type 0 where
   pub nodes : shape_nodes shape ≡ counter.nodes
   pub depth : shape.depth ≡ counter.depth + layer.extra

@@ -10,18 +10,18 @@ use Rattle.counter_core.specs.Overlays.{Layer}
 use Rattle.adversary_script.specs.Scripts.{Script, IsScript}
 use Rattle.adversary_script.specs.Eras.{era_of}
 use Rattle.round_runner.specs.declared.stepping.RoundBuffers.{RoundBuffers}
-use Rattle.round_runner.specs.Fits.{Fits}
+use Rattle.round_runner.specs.Fits.{ShapeFits}
 use Rattle.round_runner.specs.Rooms.{IsReady}
-use Rattle.round_runner.specs.Runners.{IsFor}
+use Rattle.round_runner.specs.Runners.{IsPlayableOn}
 
-pub record IsKept {Kept : Type 0} (plan : Plan) (script : Script) (layer : Layer Kept)
+pub record IsValidRunner {Kept : Type 0} (plan : Plan) (script : Script) (layer : Layer Kept)
     (room : RoundBuffers)
     (states : Pack) (locks : List (Option ℕ)) (at era : ℕ) : Type 0 where
   pub accepted : IsAccepted plan
-  pub right : IsFor plan layer script
+  pub right : IsPlayableOn plan layer script
   pub sound : IsShape script.shape
   pub whole : IsScript script
-  pub fits : Fits script.shape (plan_meaning plan) (IsInRange plan) layer
+  pub fits : ShapeFits script.shape (plan_meaning plan) (IsInRange plan) layer
   pub ready : IsReady plan script room
   pub shape : states.shape ≡ script.shape
   pub size : length states.current ≡ script.nodes

@@ -9,7 +9,7 @@ use Rattle.counter_core.specs.declared.overlays.NoOverlay.{NoOverlay}
 use Rattle.counter_core.specs.NoLayers.{no_layer}
 use Rattle.adversary_script.specs.Scripts.{Script, IsScript}
 use Rattle.adversary_script.specs.Eras.{first_of_era, end_of_era, faulty_of_era, faulty_at}
-use Rattle.adversary_script.specs.ScriptPart.{IsFor}
+use Rattle.adversary_script.specs.ScriptPart.{IsScriptForPlan}
 use Rattle.machine_runner.specs.Eras as any
 pub use Rattle.machine_runner.specs.Laws.{IsUpTo, IsOfOneEra, EachIsOfOneEra}
 use Rattle.round_runner.specs.Locks.{is_locked, first_locked, era_locked}
@@ -19,7 +19,7 @@ use Rattle.round_runner.specs.Runners.{Running, IsPlaying}
 -- a script that was read for an accepted plan
 pub record IsReadFor (plan : Plan) (script : Script) : Type 0 where
   pub accepted : IsAccepted plan
-  pub right : IsFor plan (shape_of plan) script
+  pub right : IsScriptForPlan plan (shape_of plan) script
   pub whole : IsScript script
 
 -- What is played of era j is a run of the plan with that era's faulty nodes, and each of its rounds

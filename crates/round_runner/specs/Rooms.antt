@@ -2,7 +2,7 @@
 use Rattle.std.specs.Prelude.{◌≡◌, length}
 use Rattle.construction.specs.Plans.{Plan}
 use Rattle.adversary_script.specs.Scripts.{Script}
-use Rattle.counter_core.specs.Working.{IsFor}
+use Rattle.counter_core.specs.Working.{IsWorkFor}
 use Rattle.round_runner.specs.declared.stepping.RoundBuffers.{RoundBuffers}
 use Rattle.machine_runner.specs.Hearing.{HasRoom}
 use Rattle.round_runner.specs.Hearing.{AreOfNodes}
@@ -14,5 +14,5 @@ pub record IsReady (plan : Plan) (script : Script) (room : RoundBuffers) : Type 
   pub told : length room.lies.items ≡ script.nodes
   pub lies : AreOfNodes script room.lies.items
   pub shared : room.shared.plan ≡ plan
-  pub work : IsFor script.nodes room.work
+  pub work : IsWorkFor script.nodes room.work
   pub out : length room.out.registers ≡ script.shape.depth

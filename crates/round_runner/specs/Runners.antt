@@ -2,7 +2,7 @@
 use Rattle.std.specs.Prelude.{◌≡◌, ℕ, ◌+◌, List, All, Option}
 use Rattle.sync_types.specs.States.{State}
 use Rattle.construction.specs.Plans.{Plan, plan_nodes}
-use Rattle.construction.specs.Runs.{IsBorne}
+use Rattle.construction.specs.Runs.{IsToleratedBy}
 use Rattle.plan_laws.specs.PlanMeaning.{plan_meaning}
 use Rattle.state_codec.specs.Shapes.{shape_with}
 use Rattle.counter_core.specs.Overlays.{Layer, LayerFits}
@@ -25,11 +25,12 @@ pub record Running (O : Type 0) : Type 0 where
   pub locks : List (Option ℕ)
 
 -- The script was read for the plan, and states have the layer's registers after those of the plan.
-pub record IsFor {Kept : Type 0} (plan : Plan) (layer : Layer Kept) (script : Script) : Type 0 where
+pub record IsPlayableOn {Kept : Type 0} (plan : Plan) (layer : Layer Kept)
+    (script : Script) : Type 0 where
   pub nodes : script.nodes ≡ plan_nodes plan
   pub shape : script.shape ≡ shape_with plan layer.values layer.extra
   pub over : LayerFits layer (plan_meaning plan)
-  pub borne : All (IsBorne plan) (faulty_sets script)
+  pub borne : All (IsToleratedBy plan) (faulty_sets script)
 
 -- the runner before its first round
 abbrev pub begun : {O : Type 0} → Plan → Script → O → Running O

@@ -2,7 +2,7 @@
 use Rattle.std.specs.Prelude.{◌≡◌, ◌+◌, ◌<◌, List, length}
 use Rattle.sync_types.specs.States.{State}
 use Rattle.construction.specs.Plans.{plan_nodes}
-use Rattle.construction.specs.Runs.{IsBorne}
+use Rattle.construction.specs.Runs.{IsToleratedBy}
 use Rattle.plan_numbers.specs.Premises.{IsAccepted}
 use Rattle.plan_laws.specs.PlanMeaning.{plan_meaning, IsInRange}
 use Rattle.state_codec.specs.Packs.{Pack}
@@ -14,7 +14,7 @@ use Rattle.round_runner.specs.declared.stepping.RoundBuffers.{RoundBuffers}
 use Rattle.round_runner.specs.declared.turns.Round.{Round}
 use Rattle.round_runner.specs.declared.turns.NodeStep.{NodeStep}
 use Rattle.machine_runner.specs.Beginnings.{BeginsAt}
-use Rattle.round_runner.specs.Fits.{Fits}
+use Rattle.round_runner.specs.Fits.{ShapeFits}
 use Rattle.round_runner.specs.Laying.{IsLaid}
 use Rattle.round_runner.specs.Played.{heard_at}
 use Rattle.round_runner.specs.Rooms.{IsReady}
@@ -24,7 +24,7 @@ pub record IsRound (r : Round) : Type 0 where
   pub accepted : IsAccepted r.tower.now
   pub script : IsScript r.script.now
   pub nodes : r.script.now.nodes ≡ plan_nodes r.tower.now
-  pub borne : IsBorne r.tower.now (faulty_at r.script.now r.t)
+  pub borne : IsToleratedBy r.tower.now (faulty_at r.script.now r.t)
   pub faulty : r.faulty.now
       ≡ record { nodes = r.script.now.nodes; ids = faulty_at r.script.now r.t }
   pub round : r.t < r.script.now.rounds
@@ -37,7 +37,7 @@ heard_in turn = heard_at turn.round.now.script.now turn.round.now.t turn.states.
 -- the layer, the configuration and the room are those of the round
 pub record IsSet {Kept : Type 0} (round : Round) (layer : Layer Kept) (states : Pack)
     (room : RoundBuffers) : Type 0 where
-  pub fits : Fits round.script.now.shape (plan_meaning round.tower.now)
+  pub fits : ShapeFits round.script.now.shape (plan_meaning round.tower.now)
       (IsInRange round.tower.now) layer
   pub over : LayerFits layer (plan_meaning round.tower.now)
   pub shape : states.shape ≡ round.script.now.shape

@@ -56,7 +56,7 @@ impl<O: Overlay> Drop for Runner<O> {
 
 impl<O: Overlay> Model for Runner<O> {
     ghost use Rattle.round_runner.specs.Runners.{Running};
-    ghost use Rattle.round_runner.specs.Kept.{IsKept};
+    ghost use Rattle.round_runner.specs.Kept.{IsValidRunner};
 
     ghost Value = { Running O };
 
@@ -69,7 +69,7 @@ impl<O: Overlay> Model for Runner<O> {
       locks = r.locks.items;
     } };
 
-    ghost invariant = { λ r. IsKept r.tower r.script
+    ghost invariant = { λ r. IsValidRunner r.tower r.script
         (O.layer r.overlay) r.room r.states r.locks.items r.at r.era };
 }
 
@@ -119,7 +119,7 @@ impl<O: Overlay> Runner<O> {
     ghost use Rattle.adversary_script.specs.Lies.{lie_of};
     ghost use Rattle.adversary_script.specs.Eras.{faulty_at};
     ghost use Rattle.round_runner.specs.Ledgers.{IsBlankOf};
-    ghost use Rattle.round_runner.specs.Runners.{IsFor, IsPlaying, Advances, begun};
+    ghost use Rattle.round_runner.specs.Runners.{IsPlayableOn, IsPlaying, Advances, begun};
 
     /// A runner of a script at configuration 0. It takes all the memory that it ever needs.
     ///
@@ -132,7 +132,7 @@ impl<O: Overlay> Runner<O> {
         script: Script,
         overlay: O,
     ) -> Result<Runner<O>, NoMemory>
-        requires plan { IsFor tower (O.layer overlay) script }
+        requires plan { IsPlayableOn tower (O.layer overlay) script }
         requires shape { script.shape ≡ shape }
         ensures begun { IfOk result (λ runner. runner ≡ begun tower script overlay) }
         ensures played { IfOk result (IsPlaying O.layer O.kept (O.kept overlay)) }

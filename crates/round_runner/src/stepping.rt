@@ -11,7 +11,7 @@ ghost use Rattle.shared_board.specs.Sharing.{stands_for};
 ghost use Rattle.counter_core.specs.Meanings.{written};
 ghost use Rattle.counter_core.specs.Heeding.{DependsOnlyOn};
 ghost use Rattle.counter_core.specs.Overlays.{after, layered};
-ghost use Rattle.counter_core.specs.Working.{IsFor};
+ghost use Rattle.counter_core.specs.Working.{IsWorkFor};
 ghost use Rattle.adversary_script.specs.Eras.{faulty_at};
 ghost use Rattle.machine_runner.specs.Hearing.{heard_from, HasRoom};
 ghost use Rattle.round_runner.specs.Hearing.{AreLies};
@@ -182,7 +182,7 @@ fn step_layer<O: Overlay>(turn: &NodeStep<'_>, overlay: &mut O, room: &mut Round
     ensures out { room.new.out ≡ layered (O.layer overlay.old)
         (layer_step (plan_meaning turn.now.round.now.tower.now) (O.layer overlay.old)
         (O.kept overlay.old) turn.now.v (heard_in turn.now)).registers room.old.out }
-    ensures work { IsFor turn.now.round.now.script.now.nodes room.new.work }
+    ensures work { IsWorkFor turn.now.round.now.script.now.nodes room.new.work }
     ensures same { room.new ≡ record room.old { work = room.new.work; out = room.new.out } }
 {
     turn.states.facts();

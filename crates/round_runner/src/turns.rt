@@ -1,6 +1,6 @@
 ghost use Rattle.std.specs.Prelude.{◌≡◌, ◌+◌, ◌<◌, length};
 ghost use Rattle.construction.specs.Plans.{plan_nodes};
-ghost use Rattle.construction.specs.Runs.{IsBorne};
+ghost use Rattle.construction.specs.Runs.{IsToleratedBy};
 ghost use Rattle.adversary_script.specs.Eras.{faulty_at};
 ghost use Rattle.machine_runner.specs.Beginnings.{BeginsAt, is_prop};
 ghost use Rattle.round_runner.specs.Fits.{TakesStates, takes_prop};
@@ -25,7 +25,7 @@ pub struct Round<'a> {
     /// The further era that begins after it, if one does.
     pub begins: Option<usize>,
     ghost nodes: { script.now.nodes ≡ plan_nodes tower.now },
-    ghost borne: { IsBorne tower.now (faulty_at script.now t) },
+    ghost borne: { IsToleratedBy tower.now (faulty_at script.now t) },
     ghost liars: { faulty.now
         ≡ record { nodes = script.now.nodes; ids = faulty_at script.now t } },
     ghost left: { t < script.now.rounds },

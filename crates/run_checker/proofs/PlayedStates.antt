@@ -5,7 +5,7 @@ use Rattle.std.proofs.lemmas.List.Elements.{All-get_or}
 use Rattle.std.proofs.lemmas.List.{length-map}
 use Rattle.construction.specs.Plans.{Plan, plan_nodes}
 use Rattle.construction.specs.Steps.{state_of}
-use Rattle.construction.specs.Runs.{IsBorne}
+use Rattle.construction.specs.Runs.{IsToleratedBy}
 use Rattle.state_codec.specs.Shapes.{Shape, shape_of, fields_at}
 use Rattle.state_codec.specs.Ranges.{InRange}
 use Rattle.state_codec.proofs.PlanStates.{in_range_of_node}
@@ -35,8 +35,8 @@ module _ (plan : Plan) (s : Script) (is : IsReadFor plan s) where
       subst (λ (shape : Shape). InRange (fields_at shape u) (lie_of s t u v config)) is.right.states
       (lies_in_range s is.whole (sound plan s is) t u v config range (omega (arith, n, lt)))
 
-  pub borne_at : (t : ℕ) → IsBorne plan (faulty_at s t)
+  pub borne_at : (t : ℕ) → IsToleratedBy plan (faulty_at s t)
   borne_at t =
       let among = era_within s t in
-      All-get_or (IsBorne plan) (faulty_sets s) (era_of s t) []
+      All-get_or (IsToleratedBy plan) (faulty_sets s) (era_of s t) []
       (omega (arith, among, length-map s.eras (λ (era : Era). era.faulty))) is.right.borne

@@ -12,7 +12,7 @@ use Rattle.std.proofs.lemmas.List.FromFn.{length-range_with_len, get_or-range_wi
 use Rattle.construction.specs.Plans.{Plan, plan_nodes, plan_depth}
 use Rattle.construction.specs.Shown.{shown}
 use Rattle.construction.specs.Steps.{state_of}
-use Rattle.construction.specs.Runs.{is_in, IsBorne}
+use Rattle.construction.specs.Runs.{is_in, IsToleratedBy}
 use Rattle.run_checker.specs.NodeFields.{fields_of}
 use Rattle.state_codec.specs.Texts.{is_state_text}
 use Rattle.state_codec.proofs.Digits.{text_is_taken}
@@ -134,7 +134,7 @@ module _ (plan : Plan) (s : Script) (is : IsReadFor plan s) where
       let same : faulty_at s (t + 1)
       ≡ era.faulty = found_faulty 0 (t + 1) s.faulty s.eras era is.whole.formed.rising e in
       record {
-        borne = subst (IsBorne plan) same (borne_at plan s is (t + 1));
+        borne = subst (IsToleratedBy plan) same (borne_at plan s is (t + 1));
         starts =
             subst
             (λ f. AreStarts plan (faulty_at s t) f

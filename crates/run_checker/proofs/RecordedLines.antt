@@ -15,7 +15,7 @@ use Rattle.construction.specs.Plans.{Level, Plan, plan_nodes, plan_depth, low_of
 use Rattle.construction.specs.Shown.{shown}
 use Rattle.construction.specs.Steps.{state_of}
 use Rattle.construction.specs.Runs.{is_in, IsNumber, IsRegister, HasRegisters, IsState}
-use Rattle.construction.specs.Runs.{IsConfiguration, IsBorne}
+use Rattle.construction.specs.Runs.{IsConfiguration, IsToleratedBy}
 use Rattle.plan_numbers.specs.Numbers.{below_of}
 use Rattle.plan_numbers.specs.Premises.{IsAccepted, LevelsAccepted, first_premise}
 use Rattle.plan_numbers.proofs.Accepted.{meets, accepted_sized}
@@ -131,22 +131,22 @@ module _ (plan : Plan) (accepted : IsAccepted plan) where
   pub nodes : plan_nodes plan ≤ 256
   nodes = (accepted_sized plan.base plan.levels accepted.levels).most
 
-  few : (faulty : List ℕ) → IsBorne plan faulty → length faulty ≤ 256
+  few : (faulty : List ℕ) → IsToleratedBy plan faulty → length faulty ≤ 256
   few faulty borne =
       let s = accepted_sized plan.base plan.levels accepted.levels in
       omega (arith, borne.few, s.quorum, s.most)
 
-  ids_below : (faulty : List ℕ) → IsBorne plan faulty → All (λ id. id < 256) faulty
+  ids_below : (faulty : List ℕ) → IsToleratedBy plan faulty → All (λ id. id < 256) faulty
   ids_below faulty borne =
       All-weaker (λ id. id < plan_nodes plan) (λ id. id < 256) (λ id lt. omega (arith, lt, nodes))
       faulty borne.ids
 
-  ids_short : (faulty : List ℕ) → IsBorne plan faulty → All IsShort faulty
+  ids_short : (faulty : List ℕ) → IsToleratedBy plan faulty → All IsShort faulty
   ids_short faulty borne =
       All-weaker (λ id. id < plan_nodes plan) IsShort (λ id lt. omega (arith, lt, nodes)) faulty
       borne.ids
 
-  pub faulty_line : (faulty : List ℕ) → IsBorne plan faulty → HasLine (faulty_item faulty)
+  pub faulty_line : (faulty : List ℕ) → IsToleratedBy plan faulty → HasLine (faulty_item faulty)
   faulty_line faulty borne = record {
     words = ids_short faulty borne;
     short =
@@ -154,7 +154,7 @@ module _ (plan : Plan) (accepted : IsAccepted plan) where
         (arith, ids_length (codes "faulty") faulty (ids_below faulty borne), few faulty borne);
   }
 
-  pub era_line : (t : ℕ) (faulty : List ℕ) → t ≤ 1000000 → IsBorne plan faulty
+  pub era_line : (t : ℕ) (faulty : List ℕ) → t ≤ 1000000 → IsToleratedBy plan faulty
       → HasLine (era_item t faulty)
   era_line t faulty le borne = record {
     words = (omega arith, ids_short faulty borne);

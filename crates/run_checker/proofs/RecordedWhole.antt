@@ -12,7 +12,7 @@ use mathlib.Core.List.{reverse-cons}
 use Rattle.std.proofs.lemmas.List.FromFn.{length-range_with_len}
 use Rattle.std.proofs.lemmas.List.Sums.{sum_by-cons}
 use Rattle.construction.specs.Plans.{Level, Plan, plan_nodes}
-use Rattle.construction.specs.Runs.{is_in, IsBorne}
+use Rattle.construction.specs.Runs.{is_in, IsToleratedBy}
 use Rattle.plan_numbers.specs.Premises.{IsAccepted, LevelsAccepted}
 use Rattle.state_codec.proofs.Digits.{text_is_taken}
 use Rattle.adversary_script.specs.Scripts as scripts
@@ -105,7 +105,7 @@ module _ (plan : Plan) (s : Script) (is : IsReadFor plan s) where
       ≡ era.faulty = found_faulty 0 (t + 1) s.faulty s.eras era is.whole.formed.rising e in
       All-cons HasLine (era_item (t + 1) era.faulty) (map start_of (puts_at plan s t))
       (era_line plan accepted (t + 1) era.faulty le
-      (subst (IsBorne plan) same (borne_at plan s is (t + 1))))
+      (subst (IsToleratedBy plan) same (borne_at plan s is (t + 1))))
       (starts_lines (t + 1) (filter (is_put plan s t) (range_with_len 0 (plan_nodes plan)))
       (chosen (is_put plan s t)))
 

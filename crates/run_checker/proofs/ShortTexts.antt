@@ -13,7 +13,7 @@ use Rattle.std.proofs.lemmas.List.FromFn.{length-range_with_len}
 use Rattle.std.proofs.lemmas.Grind.{flat_map-append}
 use Rattle.sync_types.proofs.RisingIds.{count_below}
 use Rattle.construction.specs.Plans.{Plan, plan_nodes}
-use Rattle.construction.specs.Runs.{is_in, IsBorne}
+use Rattle.construction.specs.Runs.{is_in, IsToleratedBy}
 use Rattle.plan_numbers.specs.Premises.{IsAccepted}
 use Rattle.plan_numbers.proofs.Accepted.{accepted_sized, accepted_depth}
 use Rattle.state_codec.specs.Shapes.{bits_in, bytes_in}
@@ -144,11 +144,11 @@ module _ (plan : Plan) (accepted : IsAccepted plan) where
         pairs_most faulty us,
       )
 
-  faulty_few : (faulty : List ℕ) → IsBorne plan faulty → length faulty ≤ 256
+  faulty_few : (faulty : List ℕ) → IsToleratedBy plan faulty → length faulty ≤ 256
   faulty_few faulty borne =
       omega (arith, count_below (plan_nodes plan) faulty borne.rising borne.ids, few_nodes)
 
-  lies_few : (faulty : List ℕ) (turn : Turn) → IsBorne plan faulty → IsTurn plan faulty turn
+  lies_few : (faulty : List ℕ) (turn : Turn) → IsToleratedBy plan faulty → IsTurn plan faulty turn
       → length turn.lies ≤ 65536
   lies_few faulty turn borne is =
       let pair : Lie → ℕ × ℕ = λ lie. (lie.sender, lie.receiver) in
@@ -180,12 +180,12 @@ module _ (plan : Plan) (accepted : IsAccepted plan) where
 
   -- ---- rounds
 
-  next_borne : (faulty : List ℕ) (era : Option Era) → IsBorne plan faulty
-      → IfSome era (IsEra plan faulty) → IsBorne plan (faulty_behind faulty era)
+  next_borne : (faulty : List ℕ) (era : Option Era) → IsToleratedBy plan faulty
+      → IfSome era (IsEra plan faulty) → IsToleratedBy plan (faulty_behind faulty era)
   next_borne faulty None borne is = borne
   next_borne faulty (Some era) borne is = is.borne
 
-  turn_most : (faulty : List ℕ) (t : ℕ) (turn : Turn) (more : List Item) → IsBorne plan faulty
+  turn_most : (faulty : List ℕ) (t : ℕ) (turn : Turn) (more : List Item) → IsToleratedBy plan faulty
       → IsTurn plan faulty turn
       → All HasLine (map lie_of turn.lies ++ (era_items t turn.era ++ (row_item t turn.row ∷ more)))
       → length
@@ -211,7 +211,7 @@ module _ (plan : Plan) (accepted : IsAccepted plan) where
         line_most row (All-head HasLine row more last),
       )
 
-  turns_most : (turns : List Turn) (faulty : List ℕ) (t : ℕ) → IsBorne plan faulty
+  turns_most : (turns : List Turn) (faulty : List ℕ) (t : ℕ) → IsToleratedBy plan faulty
       → AreTurns plan faulty turns → All HasLine (turns_items t turns)
       → length (lines (turns_items t turns)) ≤ 7676162 * length turns + 4097
   turns_most [] faulty t borne are have = omega (arith, lines_most (turns_items t []) have)

@@ -13,7 +13,7 @@ use Rattle.std.proofs.lemmas.List.Elements.{All-nil, All-cons, All-head, All-tai
 use Rattle.std.proofs.lemmas.List.Sums.{sum_by-cons}
 use Rattle.sync_types.specs.States.{State}
 use Rattle.construction.specs.Plans.{Plan, plan_nodes}
-use Rattle.construction.specs.Runs.{is_in, IsBorne}
+use Rattle.construction.specs.Runs.{is_in, IsToleratedBy}
 use Rattle.run_checker.specs.NodeFields.{fields_of}
 use Rattle.state_codec.specs.Texts.{is_state_text}
 use Rattle.adversary_script.specs.WordTests.{are_below, is_rising}
@@ -88,13 +88,14 @@ rising_declared (a ∷ b ∷ ids) e (suc j) l =
     subst (λ m. get_or (a ∷ b ∷ ids) (suc j) 0 < get_or (a ∷ b ∷ ids) m 0) (sym m)
     (rising_declared (b ∷ ids) (and_parts _ _ e).1 j (omega arith))
 
-pub borne_tested : (plan : Plan) (ids : List ℕ) → IsBorne plan ids → is_borne plan ids ≡ true
+pub borne_tested : (plan : Plan) (ids : List ℕ) → IsToleratedBy plan ids → is_borne plan ids ≡ true
 borne_tested plan ids h =
     and_from _ _
     (and_from _ _ (below_tested (plan_nodes plan) ids h.ids) (rising_tested ids h.rising))
     (le-leb _ _ h.few)
 
-pub borne_declared : (plan : Plan) (ids : List ℕ) → is_borne plan ids ≡ true → IsBorne plan ids
+pub borne_declared : (plan : Plan) (ids : List ℕ) → is_borne plan ids ≡ true
+    → IsToleratedBy plan ids
 borne_declared plan ids e =
     let p = and_parts _ _ e in
     let q = and_parts _ _ p.0 in

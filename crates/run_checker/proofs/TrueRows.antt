@@ -12,7 +12,7 @@ use Rattle.sync_types.specs.States.{State}
 use Rattle.construction.specs.Plans.{Plan, plan_nodes, plan_bound, plan_depth}
 use Rattle.construction.specs.Shown.{shown}
 use Rattle.construction.specs.Steps.{state_of}
-use Rattle.construction.specs.Runs.{is_in, IsBorne, AllShow, Run, CountsFrom, configuration}
+use Rattle.construction.specs.Runs.{is_in, IsToleratedBy, AllShow, Run, CountsFrom, configuration}
 use Rattle.plan_laws.specs.Laws.{EveryPlanSettles}
 use Rattle.run_checker.specs.declared.Verdict.TheVariants as verdict
 use Rattle.run_checker.specs.Certificates.{Era, Turn, Certificate}
@@ -110,15 +110,16 @@ quiet_faulty plan stand (turn ∷ stretch) (suc i) d quiet le =
     (λ k e lt. let up = quiet (suc k) e (omega arith) in up) (omega arith)
     ∙ ap (faulty_behind stand.faulty) none
 
-borne_behind : (plan : Plan) (faulty : List ℕ) (era : Option Era) → IsBorne plan faulty
+borne_behind : (plan : Plan) (faulty : List ℕ) (era : Option Era) → IsToleratedBy plan faulty
     → IfSome era (IsEra plan faulty)
-    → IsBorne plan (faulty_behind faulty era)
+    → IsToleratedBy plan (faulty_behind faulty era)
 borne_behind plan faulty None borne is = borne
 borne_behind plan faulty (Some era) borne is = is.borne
 
-borne_after : (plan : Plan) (before rest : List Turn) (stand : Snapshot) → IsBorne plan stand.faulty
+borne_after : (plan : Plan) (before rest : List Turn) (stand : Snapshot)
+    → IsToleratedBy plan stand.faulty
     → AreTurns plan stand.faulty (before ++ rest)
-    → IsBorne plan (stand_after plan stand before).faulty
+    → IsToleratedBy plan (stand_after plan stand before).faulty
 borne_after plan [] rest stand borne are = borne
 borne_after plan (turn ∷ before) rest stand borne are =
     borne_after plan before rest (stand_behind plan stand turn)
@@ -165,7 +166,7 @@ module _ (c : Certificate) (is : IsCertificate c) (rows : ℕ) (locked : Option 
   pub run : Run c.plan stand.faulty configs
   run = stretches_are_runs c is before stretch after parts quiet
 
-  pub borne : IsBorne c.plan stand.faulty
+  pub borne : IsToleratedBy c.plan stand.faulty
   borne = borne_after c.plan before (stretch ++ after) (first_stand c) is.borne
       (subst (AreTurns c.plan c.faulty) parts is.turns)
 

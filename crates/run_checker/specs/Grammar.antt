@@ -5,7 +5,7 @@ use Rattle.std.specs.Option.{is_some}
 use Rattle.std.specs.List.{flat_map, range_with_len, count_by}
 use Rattle.std.specs.List.Sorted.{IsStrictlyIncreasing}
 use Rattle.construction.specs.Plans.{Plan, plan_nodes}
-use Rattle.construction.specs.Runs.{is_in, IsBorne}
+use Rattle.construction.specs.Runs.{is_in, IsToleratedBy}
 use Rattle.plan_numbers.specs.Premises.{IsAccepted}
 use Rattle.run_checker.specs.NodeFields.{fields_of}
 use Rattle.state_codec.specs.Texts.{is_state_text}
@@ -37,7 +37,7 @@ faulty_behind faulty (Some era) = era.faulty
 
 -- an era after a round with these faulty nodes
 pub record IsEra (plan : Plan) (before : List ℕ) (era : Era) : Type 0 where
-  pub borne : IsBorne plan era.faulty
+  pub borne : IsToleratedBy plan era.faulty
   pub starts : AreStarts plan before era.faulty era.starts
 
 -- a round with these faulty nodes
@@ -68,7 +68,7 @@ pub record IsCertificate (c : Certificate) : Type 0 where
   pub version : (1 ≤ c.version) × (c.version ≤ 3)
   pub plan_is : c.plan.version ≡ plan_version c.version
   pub accepted : IsAccepted c.plan
-  pub borne : IsBorne c.plan c.faulty
+  pub borne : IsToleratedBy c.plan c.faulty
   pub starts : AreStarts c.plan (range_with_len 0 (plan_nodes c.plan)) c.faulty c.starts
   pub row : IsRow c.plan c.faulty c.row
   pub turns : AreTurns c.plan c.faulty c.turns

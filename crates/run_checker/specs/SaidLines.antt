@@ -9,8 +9,8 @@ use Rattle.texts.specs.Shapes.{all_numbers}
 use Rattle.run_checker.specs.Items.{Item, run_item, base_item, level_item, faulty_item}
 use Rattle.run_checker.specs.Items.{start_item, lie_item, end_item, values_said, row_by}
 use Rattle.run_checker.specs.Items.{era_by}
-use Rattle.run_checker.specs.declared.said_lines.Said.{Said}
-use Rattle.run_checker.specs.declared.said_lines.Said.TheVariants as said
+use Rattle.run_checker.specs.declared.said_lines.CertificateLine.{CertificateLine}
+use Rattle.run_checker.specs.declared.said_lines.CertificateLine.TheVariants as said
 
 -- a state that is put or told, if its word is of digits
 abbrev pub start_by : (v : ℕ) → (digits : List ℕ) → Option Item
@@ -20,7 +20,7 @@ abbrev pub lie_by : (u v : ℕ) → (digits : List ℕ) → Option Item
 lie_by u v digits = if list_all is_lower_digit digits then Some (lie_item u v digits) else None
 
 -- the item that is said, if the words that are left say what they have to
-abbrev pub item_seen : Said → Option Item
+abbrev pub item_seen : CertificateLine → Option Item
 item_seen (said.Run version) = Some (run_item version)
 item_seen (said.Base base) = Some (base_item base)
 item_seen (said.Level k f c spares) = Some (level_item k f c spares)
@@ -31,7 +31,7 @@ item_seen (said.Lie u v digits) = lie_by u v digits.now
 item_seen (said.Era t words) = era_by (Some t) (all_numbers words)
 item_seen said.End = Some end_item
 
-abbrev pub item_or_none : Option Said → Option Item
+abbrev pub item_or_none : Option CertificateLine → Option Item
 item_or_none None = None
 item_or_none (Some s) = item_seen s
 

@@ -13,7 +13,7 @@ use crate::Verdict;
 use crate::bodies::Body;
 use crate::id_lists::read_ids;
 use crate::planned::Planned;
-use crate::said_lines::{Said, read_said};
+use crate::said_lines::{CertificateLine, read_said};
 use crate::versions::Version;
 use edge_io::{LineReader, TakeError, Words};
 use plan_numbers::{Plan, PremiseError};
@@ -136,31 +136,33 @@ fn behind_faulty(alloc: Global, planned: &Planned, words: Words<'_>) -> Result<P
 }
 
 /// What stands after a line, if the head was not read before it.
-fn behind_head(alloc: Global, head: Head, said: Said<'_>) -> Result<Phase, TakeError<()>>
+fn behind_head(alloc: Global, head: Head, said: CertificateLine<'_>) -> Result<Phase, TakeError<()>>
     ensures { Enters (step_by (head_seen head) (item_seen said.entry)) result }
 {
     match (head, said) {
-        (Head::Unread, Said::Run(version)) => behind_run(version),
-        (Head::Begun(version), Said::Base(base)) => behind_base(alloc, version, base),
-        (Head::Planned(planned), Said::Level(blocks, faults, modulus, spares)) => {
+        (Head::Unread, CertificateLine::Run(version)) => behind_run(version),
+        (Head::Begun(version), CertificateLine::Base(base)) => behind_base(alloc, version, base),
+        (Head::Planned(planned), CertificateLine::Level(blocks, faults, modulus, spares)) => {
             behind_level(planned, blocks, faults, modulus, spares)
         }
-        (Head::Planned(planned), Said::Faulty(words)) => behind_faulty(alloc, &planned, words),
+        (Head::Planned(planned), CertificateLine::Faulty(words)) => behind_faulty(
+            alloc, &planned, words,
+        ),
         _ => Err(TakeError::Refused(())),
     }
 }
 
 /// Takes a line after the head.
-fn take_inside(body: &mut Body, said: Said<'_>) -> Result<Option<Verdict>, TakeError<()>>
+fn take_inside(body: &mut Body, said: CertificateLine<'_>) -> Result<Option<Verdict>, TakeError<()>>
     ensures { Takes (step_by (stage_of body.old) (item_seen said.entry))
         (stage_of body.new) result }
 {
     match said {
-        Said::Row(t, words) => body.take_row(t, words),
-        Said::Lie(sender, receiver, digits) => body.take_lie(sender, receiver, digits),
-        Said::Start(v, digits) => body.take_start(v, digits),
-        Said::Era(t, words) => body.take_era(t, words),
-        Said::End => body.take_end(),
+        CertificateLine::Row(t, words) => body.take_row(t, words),
+        CertificateLine::Lie(sender, receiver, digits) => body.take_lie(sender, receiver, digits),
+        CertificateLine::Start(v, digits) => body.take_start(v, digits),
+        CertificateLine::Era(t, words) => body.take_era(t, words),
+        CertificateLine::End => body.take_end(),
         _ => Err(TakeError::Refused(())),
     }
 }
@@ -199,7 +201,7 @@ impl CheckLines {
     }
 
     /// Takes what a line says.
-    fn take_said(&mut self, said: Said<'_>) -> Result<Option<Verdict>, TakeError<()>>
+    fn take_said(&mut self, said: CertificateLine<'_>) -> Result<Option<Verdict>, TakeError<()>>
         ensures { Takes (step_by self.old (item_seen said.entry)) self.new result }
     {
         match &mut self.phase {

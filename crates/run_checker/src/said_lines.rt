@@ -10,7 +10,7 @@ use edge_io::{LONGEST_LINE, Words, number};
 /// What a line of a certificate says, as its first word has it. Lists of numbers are still to be
 /// read, and so is whether the word of a state is of digits.
 #[derive(Drop)]
-pub enum Said<'a> {
+pub enum CertificateLine<'a> {
     /// `run V`
     Run(u64),
     /// `base C`
@@ -42,18 +42,18 @@ fn one_number(mut words: Words<'_>) -> Option<u64>
     }
 }
 
-fn run_said<'a>(words: Words<'a>) -> Option<Said<'a>>
+fn run_said<'a>(words: Words<'a>) -> Option<CertificateLine<'a>>
     ensures { item_or_none result ≡ one_said run_item words.entry }
 {
     let version = one_number(words)?;
-    Some(Said::Run(version))
+    Some(CertificateLine::Run(version))
 }
 
-fn base_said<'a>(words: Words<'a>) -> Option<Said<'a>>
+fn base_said<'a>(words: Words<'a>) -> Option<CertificateLine<'a>>
     ensures { item_or_none result ≡ one_said base_item words.entry }
 {
     let base = one_number(words)?;
-    Some(Said::Base(base))
+    Some(CertificateLine::Base(base))
 }
 
 /// The spares of a level: none if no word is left, and else `spare S`.
@@ -73,14 +73,14 @@ fn spares_said(mut words: Words<'_>) -> Option<Option<u64>>
     }
 }
 
-fn level_said<'a>(mut words: Words<'a>) -> Option<Said<'a>>
+fn level_said<'a>(mut words: Words<'a>) -> Option<CertificateLine<'a>>
     ensures { item_or_none result ≡ level_said words.entry }
 {
     let blocks = number(words.next()?)?;
     let faults = number(words.next()?)?;
     let modulus = number(words.next()?)?;
     let spares = spares_said(words)?;
-    Some(Said::Level(blocks, faults, modulus, spares))
+    Some(CertificateLine::Level(blocks, faults, modulus, spares))
 }
 
 /// The one word that is left. Whether it is of digits is seen when a state is read from it.
@@ -94,48 +94,48 @@ fn one_word<'a>(mut words: Words<'a>) -> Option<&'a [u8]>
     }
 }
 
-fn start_said<'a>(mut words: Words<'a>) -> Option<Said<'a>>
+fn start_said<'a>(mut words: Words<'a>) -> Option<CertificateLine<'a>>
     ensures { item_or_none result ≡ start_said words.entry }
 {
     let node = number(words.next()?)?;
     let digits = one_word(words)?;
-    Some(Said::Start(node, digits))
+    Some(CertificateLine::Start(node, digits))
 }
 
-fn lie_said<'a>(mut words: Words<'a>) -> Option<Said<'a>>
+fn lie_said<'a>(mut words: Words<'a>) -> Option<CertificateLine<'a>>
     ensures { item_or_none result ≡ lie_said words.entry }
 {
     let sender = number(words.next()?)?;
     let receiver = number(words.next()?)?;
     let digits = one_word(words)?;
-    Some(Said::Lie(sender, receiver, digits))
+    Some(CertificateLine::Lie(sender, receiver, digits))
 }
 
-fn row_said<'a>(mut words: Words<'a>) -> Option<Said<'a>>
+fn row_said<'a>(mut words: Words<'a>) -> Option<CertificateLine<'a>>
     ensures { item_or_none result ≡ row_said words.entry }
 {
     let at = number(words.next()?)?;
-    Some(Said::Row(at, words))
+    Some(CertificateLine::Row(at, words))
 }
 
-fn era_said<'a>(mut words: Words<'a>) -> Option<Said<'a>>
+fn era_said<'a>(mut words: Words<'a>) -> Option<CertificateLine<'a>>
     ensures { item_or_none result ≡ era_said words.entry }
 {
     let at = number(words.next()?)?;
-    Some(Said::Era(at, words))
+    Some(CertificateLine::Era(at, words))
 }
 
-fn end_said<'a>(mut words: Words<'a>) -> Option<Said<'a>>
+fn end_said<'a>(mut words: Words<'a>) -> Option<CertificateLine<'a>>
     ensures { item_or_none result ≡ end_said words.entry }
 {
     match words.next() {
         Some(_) => None,
-        None => Some(Said::End),
+        None => Some(CertificateLine::End),
     }
 }
 
 /// What the words after the first one say.
-fn said_behind<'a>(key: &[u8], words: Words<'a>) -> Option<Said<'a>>
+fn said_behind<'a>(key: &[u8], words: Words<'a>) -> Option<CertificateLine<'a>>
     ensures { item_or_none result ≡ item_of (key.now ∷ words.entry) }
 {
     if key == b"lie".as_slice() {
@@ -154,7 +154,7 @@ fn said_behind<'a>(key: &[u8], words: Words<'a>) -> Option<Said<'a>>
         return end_said(words);
     }
     if key == b"faulty".as_slice() {
-        return Some(Said::Faulty(words));
+        return Some(CertificateLine::Faulty(words));
     }
     if key == b"level".as_slice() {
         return level_said(words);
@@ -169,7 +169,7 @@ fn said_behind<'a>(key: &[u8], words: Words<'a>) -> Option<Said<'a>>
 }
 
 /// What a line says.
-pub fn read_said<'a>(line: &'a [u8]) -> Option<Said<'a>>
+pub fn read_said<'a>(line: &'a [u8]) -> Option<CertificateLine<'a>>
     ensures { item_or_none result ≡ said line.now }
 {
     if line.len() > LONGEST_LINE {

@@ -11,7 +11,7 @@ use Rattle.run_explanations.specs.declared.explanations.Explanation.{Explanation
 use Rattle.run_explanations.specs.declared.searching.LeaderStreak.{LeaderStreak}
 use Rattle.run_explanations.specs.declared.seeing.Observation.{Observation}
 use Rattle.run_explanations.specs.declared.tops.Top.{Top}
-use Rattle.run_explanations.specs.Checking.{Fits, is_of, is_of_seen}
+use Rattle.run_explanations.specs.Checking.{IsWithinWindow, is_of, is_of_seen}
 use Rattle.run_explanations.specs.Explanations.{IsExplanation, era_begin, is_faulty, seen_at}
 use Rattle.run_explanations.specs.Playing.{FitsEra}
 use Rattle.run_explanations.specs.Searching.{begins_phase, stretch_before}
@@ -25,7 +25,7 @@ use Rattle.run_explanations.proofs.Windows.{IsWindow, Stands, stands, IsLong, wi
 pub explained_fits : (beat : ℕ) (faulty : ℕ → Bool) (last since : ℕ) (seen : ℕ → Option Observation)
     (e : Explanation)
     → Explained beat faulty last since seen e.window e.leader e.phase e.king
-    → Fits beat since last e
+    → IsWithinWindow beat since last e
 explained_fits beat faulty last since seen e why = record {
   from = why.since;
   window = why.within;
@@ -40,7 +40,7 @@ module _ (beat : ℕ) (six : 6 ≤ beat) (faulty : ℕ → Bool) (last since : �
   Why = Explained beat faulty last since seen e.window e.leader e.phase e.king
 
   passing : (c count : ℕ) (o : Option Observation) → c + 1 ≡ e.window + beat
-      → Stands beat seen e.window (suc c) count o → Fits beat since last e
+      → Stands beat seen e.window (suc c) count o → IsWithinWindow beat since last e
       → is_of_seen beat faulty last count o e ≡ true → Why
   passing c count None at h fits is = absurd (false≢true is)
   passing c count (Some s) at h fits is =
@@ -123,7 +123,7 @@ module _ (beat : ℕ) (six : 6 ≤ beat) (faulty : ℕ → Bool) (last since : �
         ∙ passes_all s.count (omega (arith, more, six))
 
   -- it passes exactly if it explains
-  pub tested : Fits beat since last e
+  pub tested : IsWithinWindow beat since last e
       →
       (is_of beat faulty last (stretch_before beat e.window seen (e.window + beat)) e ≡ true
       → Why)
@@ -145,7 +145,8 @@ module _ (beat : ℕ) (six : 6 ≤ beat) (faulty : ℕ → Bool) (last since : �
 -- ---- of the last era of a script
 
 module _ (plan : Plan) (script : Script) (is : IsTop (top_of plan)) (e : Explanation) where
-  pub check_passes : (result : Bool) → Fits (top_of plan).beat (era_begin script) script.rounds e
+  pub check_passes : (result : Bool)
+      → IsWithinWindow (top_of plan).beat (era_begin script) script.rounds e
       → result ≡ is_of (top_of plan).beat (is_faulty script) script.rounds
       (stretch_before (top_of plan).beat e.window (seen_at plan script)
       (e.window + (top_of plan).beat))
@@ -160,7 +161,7 @@ module _ (plan : Plan) (script : Script) (is : IsTop (top_of plan)) (e : Explana
       )
 
   pub check_fits : IsExplanation plan script e
-      → Fits (top_of plan).beat (era_begin script) script.rounds e
+      → IsWithinWindow (top_of plan).beat (era_begin script) script.rounds e
   check_fits why =
       explained_fits (top_of plan).beat (is_faulty script) script.rounds (era_begin script)
       (seen_at plan script) e (era_is_seen plan script is e.window e.leader e.phase e.king why)
@@ -190,20 +191,22 @@ result_is plan read script top played s e result top_is plan_is same stretch is 
 module _ (plan : Plan) (script : Script) (top : Top) (from rounds : ℕ) (e : Explanation)
     (top_is : top ≡ top_of plan) (begin : from ≡ era_begin script) (last : rounds ≡ script.rounds)
   where
-    pub fits_era : Fits top.beat from rounds e → FitsEra plan script e
+    pub fits_era : IsWithinWindow top.beat from rounds e → FitsEra plan script e
     fits_era fits =
-        subst (λ (t : Top). Fits t.beat (era_begin script) script.rounds e) top_is
-        (subst (λ (from : ℕ). Fits top.beat from script.rounds e) begin
-        (subst (λ (r : ℕ). Fits top.beat from r e) last fits))
+        subst (λ (t : Top). IsWithinWindow t.beat (era_begin script) script.rounds e) top_is
+        (subst (λ (from : ℕ). IsWithinWindow top.beat from script.rounds e) begin
+        (subst (λ (r : ℕ). IsWithinWindow top.beat from r e) last fits))
 
-    pub era_fits : FitsEra plan script e → Fits top.beat from rounds e
+    pub era_fits : FitsEra plan script e → IsWithinWindow top.beat from rounds e
     era_fits fits =
-        subst (λ (r : ℕ). Fits top.beat from r e) (sym last)
-        (subst (λ (from : ℕ). Fits top.beat from script.rounds e) (sym begin)
-        (subst (λ (t : Top). Fits t.beat (era_begin script) script.rounds e) (sym top_is) fits))
+        subst (λ (r : ℕ). IsWithinWindow top.beat from r e) (sym last)
+        (subst (λ (from : ℕ). IsWithinWindow top.beat from script.rounds e) (sym begin)
+        (subst (λ (t : Top). IsWithinWindow t.beat (era_begin script) script.rounds e)
+        (sym top_is) fits))
 
-pub fits_any : (beat since last other : ℕ) (e : Explanation) → last ≡ other → Fits beat since last e
-    → Fits beat 0 other e
+pub fits_any : (beat since last other : ℕ) (e : Explanation) → last ≡ other
+    → IsWithinWindow beat since last e
+    → IsWithinWindow beat 0 other e
 fits_any beat since last other e same fits =
     let window = fits.window in
     record {

@@ -10,7 +10,7 @@ use Rattle.sync_types.specs.States.{State}
 use Rattle.construction.specs.Plans.{Level, Plan, plan_bound, beat_of, nodes_of, faults_of}
 use Rattle.construction.specs.Pointers.{pointer_of, part_of}
 use Rattle.construction.specs.Plans.{leaders_of}
-use Rattle.construction.specs.Runs.{configuration, IsBorne, IsLocked}
+use Rattle.construction.specs.Runs.{configuration, IsToleratedBy, IsLocked}
 use Rattle.plan_laws.specs.Explained.{Explains}
 use Rattle.plan_laws.specs.ExplainedRuns.{inner_in, ExplainedRunsLock, BoundIsExplained}
 use Rattle.adversary_script.specs.Scripts.{Era, Script, faulty_sets}
@@ -115,8 +115,8 @@ module _ (plan : Plan) (script : Script) (is : IsReadFor plan script) where
       get_or-map-range_with_len (λ i. played_at plan script (era_begin script + i)) 0
       (end_of_era script era - era_begin script) i i [] (omega (arith, le, end_is)) (omega arith)
 
-  borne_is : IsBorne plan (faulty_of_era script era)
-  borne_is = All-get_or (IsBorne plan) (faulty_sets script) era []
+  borne_is : IsToleratedBy plan (faulty_of_era script era)
+  borne_is = All-get_or (IsToleratedBy plan) (faulty_sets script) era []
       (omega (arith, length-map script.eras (λ (era : Era). era.faulty))) is.right.borne
 
   outputs_are : (depth r : ℕ) → era_begin script + r ≤ script.rounds

@@ -13,14 +13,14 @@ use Rattle.run_explanations.specs.declared.tops.Top.{Top}
 use Rattle.run_explanations.specs.Seeing.{shared_by, is_sound, is_correct, pointer_at, part_at}
 use Rattle.run_explanations.specs.Seeing.{pointed, parted, seen_parts, seen_leader, seen_in, Sees}
 use Rattle.run_explanations.specs.Tops.{IsTop}
-use Rattle.run_explanations.proofs.Sharing.{Fits, Started, Holds, one_is, one_fits, gate_fits}
+use Rattle.run_explanations.proofs.Sharing.{AllShow, Started, Holds, one_is, one_fits, gate_fits}
 use Rattle.run_explanations.proofs.Sharing.{gate_started, gate_here, gate_holds, shared_fits}
 use Rattle.run_explanations.proofs.Sharing.{shared_splits, shared_goes_on, shared_started}
 use Rattle.run_explanations.proofs.Sharing.{shared_holds}
 
 -- a shut gate leaves what was
-gate_splits : (old new : Shared) (x : ℕ) (b : Bool) → (Fits new x → Fits old x)
-    → Fits (if b then new else old) x → (Fits old x) × (b ≡ true → Fits new x)
+gate_splits : (old new : Shared) (x : ℕ) (b : Bool) → (AllShow new x → AllShow old x)
+    → AllShow (if b then new else old) x → (AllShow old x) × (b ≡ true → AllShow new x)
 gate_splits old new x true back h = (back h, λ e. h)
 gate_splits old new x false back h = (h, λ e. absurd (false≢true e))
 
@@ -35,7 +35,7 @@ module _ (top : Top) (faulty : ℕ → Bool) (outputs : ℕ → ℕ) where
   AllPoint x m = (i j : ℕ) → i < m → is_sound top faulty i ≡ true → j < top.nodes
       → is_correct top faulty i j ≡ true → pointer_at top outputs i j ≡ x
 
-  pointed_fits : (x m : ℕ) → AllPoint x m → Fits (pointed top faulty outputs m) x
+  pointed_fits : (x m : ℕ) → AllPoint x m → AllShow (pointed top faulty outputs m) x
   pointed_fits x zero h = tt
   pointed_fits x (suc i) h =
       let before = pointed_fits x i (λ k j lt. h k j (omega (arith, lt))) in
@@ -43,7 +43,7 @@ module _ (top : Top) (faulty : ℕ → Bool) (outputs : ℕ → ℕ) where
       (λ ok. shared_fits (pointed top faulty outputs i) (is_correct top faulty i)
       (pointer_at top outputs i) x top.nodes before (λ j lt e. h i j (omega arith) ok lt e))
 
-  pointed_splits : (x m : ℕ) → Fits (pointed top faulty outputs m) x → AllPoint x m
+  pointed_splits : (x m : ℕ) → AllShow (pointed top faulty outputs m) x → AllPoint x m
   pointed_splits x zero h i j lt ok jlt e = absurd (omega (arith, lt))
   pointed_splits x (suc m) h i j lt ok jlt e =
       let splits = shared_splits (pointed top faulty outputs m) (is_correct top faulty m)

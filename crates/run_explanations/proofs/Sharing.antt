@@ -8,10 +8,10 @@ use Rattle.run_explanations.specs.declared.seeing.Shared.TheVariants.{Nothing, O
 use Rattle.run_explanations.specs.Seeing.{joined, shared_by}
 
 -- that all numbers so far are x
-abbrev pub Fits : Shared → ℕ → Type 0
-Fits Nothing x = ⊤
-Fits (One known) x = known ≡ x
-Fits Several x = ⊥
+abbrev pub AllShow : Shared → ℕ → Type 0
+AllShow Nothing x = ⊤
+AllShow (One known) x = known ≡ x
+AllShow Several x = ⊥
 
 -- that there is a number
 abbrev pub Started : Shared → Type 0
@@ -25,34 +25,34 @@ Holds P Nothing = ⊤
 Holds P (One known) = P known
 Holds P Several = ⊤
 
-pub one_is : (s : Shared) (x : ℕ) → Started s → Fits s x → s ≡ One x
+pub one_is : (s : Shared) (x : ℕ) → Started s → AllShow s x → s ≡ One x
 one_is Nothing x some h = absurd some
 one_is (One known) x some h = ap One h
 one_is Several x some h = absurd h
 
-pub one_fits : (s : Shared) (x : ℕ) → s ≡ One x → Fits s x
-one_fits s x e = subst (λ (s : Shared). Fits s x) (sym e) refl
+pub one_fits : (s : Shared) (x : ℕ) → s ≡ One x → AllShow s x
+one_fits s x e = subst (λ (s : Shared). AllShow s x) (sym e) refl
 
 -- ---- one more number
 
 one_fits_more : (known number x : ℕ) (b : Bool) → nat_eq known number ≡ b → known ≡ x → number ≡ x
-    → Fits (if b then One known else Several) x
+    → AllShow (if b then One known else Several) x
 one_fits_more known number x true e h g = h
 one_fits_more known number x false e h g =
     absurd (true≢false (sym (eq-eqb known number (h ∙ sym g)) ∙ e))
 
-joined_fits : (s : Shared) (number x : ℕ) → Fits s x → number ≡ x → Fits (joined s number) x
+joined_fits : (s : Shared) (number x : ℕ) → AllShow s x → number ≡ x → AllShow (joined s number) x
 joined_fits Nothing number x h g = g
 joined_fits (One known) number x h g = one_fits_more known number x (nat_eq known number) refl h g
 joined_fits Several number x h g = h
 
 one_splits : (known number x : ℕ) (b : Bool) → nat_eq known number ≡ b
-    → Fits (if b then One known else Several) x → (known ≡ x) × (number ≡ x)
+    → AllShow (if b then One known else Several) x → (known ≡ x) × (number ≡ x)
 one_splits known number x true e h = (h, sym (eqb-true known number e) ∙ h)
 one_splits known number x false e h = absurd h
 
-joined_splits : (s : Shared) (number x : ℕ) → Fits (joined s number) x
-    → (Fits s x) × (number ≡ x)
+joined_splits : (s : Shared) (number x : ℕ) → AllShow (joined s number) x
+    → (AllShow s x) × (number ≡ x)
 joined_splits Nothing number x h = (tt, h)
 joined_splits (One known) number x h = one_splits known number x (nat_eq known number) refl h
 joined_splits Several number x h = absurd h
@@ -79,8 +79,8 @@ joined_holds P Several number h g = tt
 
 -- ---- one more place, which counts or does not
 
-pub gate_fits : (old new : Shared) (x : ℕ) (b : Bool) → Fits old x → (b ≡ true → Fits new x)
-    → Fits (if b then new else old) x
+pub gate_fits : (old new : Shared) (x : ℕ) (b : Bool) → AllShow old x → (b ≡ true → AllShow new x)
+    → AllShow (if b then new else old) x
 gate_fits old new x true h g = g refl
 gate_fits old new x false h g = h
 
@@ -100,16 +100,16 @@ gate_holds P old new true h g = g
 gate_holds P old new false h g = h
 
 place_splits : (s : Shared) (number x : ℕ) (b : Bool)
-    → Fits (if b then joined s number else s) x → (Fits s x) × (b ≡ true → number ≡ x)
+    → AllShow (if b then joined s number else s) x → (AllShow s x) × (b ≡ true → number ≡ x)
 place_splits s number x true h = let p = joined_splits s number x h in (p.0, λ e. p.1)
 place_splits s number x false h = (h, λ e. absurd (false≢true e))
 
 -- ---- all places
 
 module _ (begun : Shared) (counts : ℕ → Bool) (number : ℕ → ℕ) where
-  pub shared_fits : (x n : ℕ) → Fits begun x
+  pub shared_fits : (x n : ℕ) → AllShow begun x
       → ((j : ℕ) → j < n → counts j ≡ true → number j ≡ x)
-      → Fits (shared_by begun counts number n) x
+      → AllShow (shared_by begun counts number n) x
   shared_fits x zero h g = h
   shared_fits x (suc n) h g =
       let before = shared_fits x n h (λ j lt. g j (omega (arith, lt))) in
@@ -118,8 +118,8 @@ module _ (begun : Shared) (counts : ℕ → Bool) (number : ℕ → ℕ) where
       (λ e. joined_fits (shared_by begun counts number n) (number n) x before
       (g n (omega arith) e))
 
-  pub shared_splits : (x n : ℕ) → Fits (shared_by begun counts number n) x
-      → (Fits begun x) × ((j : ℕ) → j < n → counts j ≡ true → number j ≡ x)
+  pub shared_splits : (x n : ℕ) → AllShow (shared_by begun counts number n) x
+      → (AllShow begun x) × ((j : ℕ) → j < n → counts j ≡ true → number j ≡ x)
   shared_splits x zero h = (h, λ j lt. absurd (omega (arith, lt)))
   shared_splits x (suc n) h =
       let p = place_splits (shared_by begun counts number n) (number n) x (counts n) h in

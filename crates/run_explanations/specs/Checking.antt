@@ -7,7 +7,7 @@ use Rattle.run_explanations.specs.declared.searching.LeaderStreak.{LeaderStreak}
 use Rattle.run_explanations.specs.Searching.{begins_phase}
 
 -- the window begins in the era and ends by the last configuration, and the phase is in it
-pub record Fits (beat since last : ℕ) (e : Explanation) : Type 0 where
+pub record IsWithinWindow (beat since last : ℕ) (e : Explanation) : Type 0 where
   pub from : since ≤ e.window
   pub window : e.window + beat ≤ last + 1
   pub begins : e.window ≤ e.phase

@@ -10,7 +10,7 @@ use Rattle.run_explanations.specs.declared.explaining.Search.{Search}
 use Rattle.run_explanations.specs.declared.explanations.Explanation.{Explanation}
 use Rattle.run_explanations.specs.declared.searching.LeaderStreak.{LeaderStreak}
 use Rattle.run_explanations.specs.declared.tops.Top.{Top}
-use Rattle.run_explanations.specs.Checking.{Fits}
+use Rattle.run_explanations.specs.Checking.{IsWithinWindow}
 use Rattle.run_explanations.specs.Explanations.{era_begin, is_faulty, seen_at}
 use Rattle.run_explanations.specs.Reading.{Reads}
 use Rattle.run_explanations.specs.Searching.{first_or, stretched, stretch_before, explained_from}
@@ -71,7 +71,7 @@ pub record IsToRead (top : Top) (r : Running NoOverlay) : Type 0 where
 
 -- whether the window and the phase of an explanation fit into the last era of a script
 abbrev pub FitsEra : Plan → Script → Explanation → Type 0
-FitsEra plan script e = Fits (top_of plan).beat (era_begin script) script.rounds e
+FitsEra plan script e = IsWithinWindow (top_of plan).beat (era_begin script) script.rounds e
 
 -- it has played to the end of the window of an explanation that fits, and else nothing
 pub record HasTested (plan : Plan) (e : Explanation) (old new : Running NoOverlay) : Type 0 where

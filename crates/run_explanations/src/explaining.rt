@@ -4,7 +4,7 @@ ghost use Rattle.adversary_script.specs.Eras.{faulty_of_era};
 ghost use Rattle.run_explanations.specs.Explanations.{IsExplanation, IsFirstOrNone, era_begin};
 ghost use Rattle.run_explanations.specs.Explanations.{explanation_of, is_faulty, seen_at};
 ghost use Rattle.round_runner.specs.Known.{KnowsLocks};
-ghost use Rattle.run_explanations.specs.Checking.{Fits, is_of};
+ghost use Rattle.run_explanations.specs.Checking.{IsWithinWindow, is_of};
 ghost use Rattle.run_explanations.specs.Searching.{no_stretch, stretched, stretch_before};
 ghost use Rattle.run_explanations.specs.Searching.{found_before};
 ghost use Rattle.run_explanations.specs.Playing.{IsToPlay, IsToRead, IsRead, IsEnough, HasPlayed};
@@ -176,7 +176,7 @@ pub fn explain(plan: &Plan, runner: &mut Runner<NoOverlay>) -> Option<Explanatio
 
 /// Whether a window and a phase are within the last era, and the phase within the window.
 fn fits(top: TopLevel, from: u64, rounds: u64, explanation: Explanation) -> bool
-    ensures { (result ≡ true) ↔ Fits top.numbers.beat from rounds explanation }
+    ensures { (result ≡ true) ↔ IsWithinWindow top.numbers.beat from rounds explanation }
 {
     from <= explanation.window
         && explanation.window <= rounds
@@ -187,7 +187,7 @@ fn fits(top: TopLevel, from: u64, rounds: u64, explanation: Explanation) -> bool
 
 /// Whether an explanation is that of the window which ends with a stretch.
 fn is_of(top: TopLevel, script: &Script, stretch: LeaderStreak, explanation: Explanation) -> bool
-    requires { Fits top.numbers.beat 0 script.now.rounds explanation }
+    requires { IsWithinWindow top.numbers.beat 0 script.now.rounds explanation }
     ensures { result ≡ is_of top.numbers.beat (is_faulty script.now) script.now.rounds stretch
         explanation }
 {

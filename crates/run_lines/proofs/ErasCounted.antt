@@ -7,7 +7,7 @@ use Rattle.sync_types.specs.States.{State}
 use Rattle.construction.specs.Plans.{Plan, plan_depth}
 use Rattle.construction.specs.Shown.{shown}
 use Rattle.construction.specs.Steps.{state_of}
-use Rattle.construction.specs.Runs.{configuration, IsBorne, Counts}
+use Rattle.construction.specs.Runs.{configuration, IsToleratedBy, Counts}
 use Rattle.plan_numbers.specs.Premises.{IsAccepted}
 use Rattle.plan_numbers.proofs.Accepted.{accepted_sized}
 use Rattle.plan_laws.specs.PlanMeaning.{plan_meaning}
@@ -17,14 +17,15 @@ use Rattle.counter_core.specs.Overlays.{Layer}
 use Rattle.state_codec.specs.Shapes.{IsShape}
 use Rattle.adversary_script.specs.Scripts.{Script, Era, IsScript, faulty_sets}
 use Rattle.adversary_script.specs.Eras.{first_of_era, end_of_era, faulty_of_era}
-use Rattle.round_runner.specs.Runners.{IsFor}
+use Rattle.round_runner.specs.Runners.{IsPlayableOn}
 use Rattle.machine_runner.proofs.Firsts.{era_some}
 use Rattle.round_runner.proofs.ScenesRun.{states_at, cut_run, cut_length, cut_configuration}
 use Rattle.round_runner.proofs.ScenesRun.{scenes_run}
 use Rattle.layer_lines.specs.Counting.{EraCounts, ErasCount}
 
 module _ {Kept : Type 0} (plan : Plan) (script : Script) (layer : Layer Kept) (began : List Kept)
-    (accepted : IsAccepted plan) (right : IsFor plan layer script) (sound : IsShape script.shape)
+    (accepted : IsAccepted plan) (right : IsPlayableOn plan layer script)
+    (sound : IsShape script.shape)
     (whole : IsScript script) where
   module _ (j : ℕ) (among : j ≤ length script.eras) where
     abbrev count : ℕ
@@ -35,8 +36,8 @@ module _ {Kept : Type 0} (plan : Plan) (script : Script) (layer : Layer Kept) (b
     run = cut_run plan script layer began (first_of_era script j)
         (end_of_era script j - first_of_era script j)
 
-    borne : IsBorne plan (faulty_of_era script j)
-    borne = All-get_or (IsBorne plan) (faulty_sets script) j []
+    borne : IsToleratedBy plan (faulty_of_era script j)
+    borne = All-get_or (IsToleratedBy plan) (faulty_sets script) j []
         (omega (arith, among, length-map script.eras (λ (era : Era). era.faulty))) right.borne
 
     some : first_of_era script j < end_of_era script j
@@ -90,7 +91,7 @@ module _ {Kept : Type 0} (plan : Plan) (script : Script) (layer : Layer Kept) (b
         least = sized.least_modulus;
         whole = whole;
         borne = λ k d lt.
-            let borne : IsBorne plan _ = right.borne k d lt in
+            let borne : IsToleratedBy plan _ = right.borne k d lt in
             record { rising = borne.rising; ids = borne.ids; few = borne.few };
         eras = era_counts;
       }

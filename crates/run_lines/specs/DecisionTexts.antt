@@ -6,12 +6,12 @@ use Rattle.plan_laws.specs.PlanMeaning.{plan_meaning}
 use Rattle.adversary_script.specs.Scripts.{Script}
 use Rattle.layer_laws.specs.Scenes.{Scene}
 use Rattle.layer_laws.specs.Slots.{slot_length}
-use Rattle.consensus_layer.specs.AgreeSaid.{AgreeSaid}
+use Rattle.consensus_layer.specs.AgreeContent.{AgreeContent}
 use Rattle.round_runner.specs.Locks.{is_locked}
 use Rattle.layer_lines.specs.DecisionTexts as any
 pub use Rattle.layer_lines.specs.DecisionTexts.{decision_word, slot_front, decision_wording}
 
-module _ (plan : Plan) (script : Script) (said : AgreeSaid) where
+module _ (plan : Plan) (script : Script) (said : AgreeContent) where
   abbrev pub slot_of : ℕ
   slot_of = slot_length (plan_faults plan)
 

@@ -7,13 +7,13 @@ use Rattle.plan_laws.specs.PlanMeaning.{plan_meaning}
 use Rattle.adversary_script.specs.Scripts.{Script}
 use Rattle.layer_laws.specs.Scenes.{Scene}
 use Rattle.replicated_log.specs.declared.entries.Entry.{Entry}
-use Rattle.replicated_log.specs.LogSaid.{LogSaid}
+use Rattle.replicated_log.specs.LogContent.{LogContent}
 use Rattle.round_runner.specs.Locks.{is_locked}
 use Rattle.layer_lines.specs.EntryTexts as any
 pub use Rattle.layer_lines.specs.EntryTexts.{newest_value, entry_word, entry_front, output_before}
 pub use Rattle.layer_lines.specs.EntryTexts.{entry_wording}
 
-module _ (plan : Plan) (script : Script) (said : LogSaid) where
+module _ (plan : Plan) (script : Script) (said : LogContent) where
   -- scene c of what is played, if all logs are empty at first
   abbrev pub log_scene : (c : ℕ) → Scene (List Entry)
   log_scene c = any.log_scene (plan_meaning plan) script said c

@@ -18,8 +18,8 @@ use Rattle.round_runner.specs.Runners as runner
 use Rattle.layer_laws.specs.Slots.{slot_length}
 use Rattle.slot_table.specs.declared.lines.SlotLine.{SlotLine}
 use Rattle.slot_table.specs.Tables.{Holds, AreApart}
-use Rattle.consensus_layer.specs.AgreeSaid.{AgreeSaid}
-use Rattle.consensus_layer.specs.AgreePart.{IsFor}
+use Rattle.consensus_layer.specs.AgreeContent.{AgreeContent}
+use Rattle.consensus_layer.specs.AgreePart.{IsAgreeForPlan}
 use Rattle.consensus_layer.specs.Agreements.{agree_layer}
 use Rattle.run_lines.specs.PlayedTexts.{played_text}
 use Rattle.run_lines.specs.ShownTexts.{shown_text, shown_wording}
@@ -47,8 +47,9 @@ HoldsAsDefined = (plan : Plan) (script : Script) (lines : List SlotLine)
 
 -- the lines of consensus
 abbrev pub DecisionsAsDefined : Type 0
-DecisionsAsDefined = (plan : Plan) → IsAccepted plan → (said : AgreeSaid) → IsFor plan said
-    → (script : Script) → runner.IsFor plan (agree_layer plan said.values said.inputs) script
+DecisionsAsDefined = (plan : Plan) → IsAccepted plan → (said : AgreeContent)
+    → IsAgreeForPlan plan said
+    → (script : Script) → runner.IsPlayableOn plan (agree_layer plan said.values said.inputs) script
     → IsShape script.shape → IsScript script
     → played_text plan script (agree_layer plan said.values said.inputs)
     (replicate (plan_nodes plan) 0) (decision_wording (slot_length (plan_faults plan)))

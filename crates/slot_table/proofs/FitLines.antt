@@ -20,7 +20,7 @@ use Rattle.construction.specs.Plans.{Plan, plan_nodes, plan_modulus}
 use Rattle.slot_table.specs.declared.lines.SlotLine.{SlotLine}
 use Rattle.slot_table.specs.Tables.{covers, meets, AreApart}
 use Rattle.slot_table.specs.SlotPart.{SlotsSoFar, no_lines, line_tested, line_in, with_line}
-use Rattle.slot_table.specs.SlotPart.{slots_step, part_for, part_of, IsFor, IsTable, AreFor}
+use Rattle.slot_table.specs.SlotPart.{slots_step, part_for, part_of, IsLineFor, IsTable, AreFor}
 
 -- ---- a line that meets no other one
 
@@ -98,13 +98,13 @@ record FitSoFar (nodes modulus : ℕ) (s : SlotsSoFar) : Type 0 where
   same_nodes : s.nodes ≡ nodes
   same_modulus : s.modulus ≡ modulus
   many : length s.lines ≤ 256
-  each : All (IsFor nodes modulus) s.lines
+  each : All (IsLineFor nodes modulus) s.lines
   apart : AreApart s.lines
 
 -- a line that may be put after the others
 record IsOneMore (s : SlotsSoFar) (line : SlotLine) : Type 0 where
   room : length s.lines < 256
-  right : IsFor s.nodes s.modulus line
+  right : IsLineFor s.nodes s.modulus line
   clear : list_any (meets line.first line.last) s.lines ≡ false
 
 by_tests : (s : SlotsSoFar) (v a b : ℕ) (full high out met : Bool)
@@ -156,9 +156,9 @@ module _ (nodes modulus : ℕ) where
     same_nodes = fit.same_nodes;
     same_modulus = fit.same_modulus;
     many = let room = one.room in omega (arith, length_push s.lines line, room);
-    each = All-push (IsFor nodes modulus) s.lines line fit.each
-        (subst (λ n. IsFor n modulus line) fit.same_nodes
-        (subst (λ c. IsFor s.nodes c line) fit.same_modulus one.right));
+    each = All-push (IsLineFor nodes modulus) s.lines line fit.each
+        (subst (λ n. IsLineFor n modulus line) fit.same_nodes
+        (subst (λ c. IsLineFor s.nodes c line) fit.same_modulus one.right));
     apart = apart_more s.lines line fit.apart one.clear;
   }
 
@@ -196,7 +196,7 @@ module _ (nodes modulus : ℕ) where
     same_nodes = refl;
     same_modulus = refl;
     many = omega arith;
-    each = All-nil (IsFor nodes modulus);
+    each = All-nil (IsLineFor nodes modulus);
     apart = λ i j output d ilt jlt here there. absurd (omega (arith, ilt));
   }
 

@@ -21,7 +21,7 @@ use Rattle.plan_laws.proofs.PlanCounter.{plan_sizes}
 use Rattle.slot_table.specs.declared.lines.SlotLine.{SlotLine}
 use Rattle.slot_table.specs.Tables.{covers, meets}
 use Rattle.slot_table.specs.SlotPart.{SlotsSoFar, no_lines, line_tested, with_line, slots_step}
-use Rattle.slot_table.specs.SlotPart.{IsFor, IsTable}
+use Rattle.slot_table.specs.SlotPart.{IsLineFor, IsTable}
 use Rattle.slot_table.specs.SlotTexts.{slot_text, TableTextIsRead, SlotTextIsRead}
 
 slots_plain : IsPlain (codes "slots")
@@ -69,9 +69,9 @@ module _ (nodes modulus : ℕ) (few : nodes ≤ 2 ^ 40) (low : modulus ≤ 2 ^ 4
         let zero_more : length done ≡ length done + 0 = omega arith in
         ap (λ i. get_or all i d) zero_more ∙ get_or-append-add done (line ∷ more) 0 d
 
-    is_for : IsFor nodes modulus line
-    is_for = subst (IsFor nodes modulus) (at_place line)
-        (All-get_or (IsFor nodes modulus) all (length done) line
+    is_for : IsLineFor nodes modulus line
+    is_for = subst (IsLineFor nodes modulus) (at_place line)
+        (All-get_or (IsLineFor nodes modulus) all (length done) line
         (omega (arith, long)) are.each)
 
     -- the numbers of its line
@@ -105,10 +105,10 @@ module _ (nodes modulus : ℕ) (few : nodes ≤ 2 ^ 40) (low : modulus ≤ 2 ^ 4
       abbrev old : SlotLine
       old = get_or done i line
 
-      old_for : IsFor nodes modulus old
-      old_for = subst (IsFor nodes modulus)
+      old_for : IsLineFor nodes modulus old
+      old_for = subst (IsLineFor nodes modulus)
           (get_or_append_left done (line ∷ more) line i lt)
-          (All-get_or (IsFor nodes modulus) all i line
+          (All-get_or (IsLineFor nodes modulus) all i line
           (omega (arith, lt, long)) are.each)
 
       meet_at : (output : ℕ) → line.first ≤ output → output ≤ line.last → old.first ≤ output

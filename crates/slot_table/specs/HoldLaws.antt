@@ -4,7 +4,7 @@ use Rattle.sync_types.specs.States.{State}
 use Rattle.construction.specs.Plans.{Plan, plan_nodes, plan_bound, plan_depth}
 use Rattle.construction.specs.Shown.{shown}
 use Rattle.construction.specs.Steps.{state_of}
-use Rattle.construction.specs.Runs.{is_in, configuration, IsBorne, Run}
+use Rattle.construction.specs.Runs.{is_in, configuration, IsToleratedBy, Run}
 use Rattle.plan_numbers.specs.Premises.{IsAccepted}
 use Rattle.slot_table.specs.declared.lines.SlotLine.{SlotLine}
 use Rattle.slot_table.specs.Tables.{Holds, AreApart}
@@ -20,7 +20,7 @@ pub record HoldsIn (plan : Plan) (lines : List SlotLine) (faulty : List ℕ) (co
 -- holds.
 abbrev pub AtMostOneHolds : Type 0
 AtMostOneHolds = (plan : Plan) → IsAccepted plan → (lines : List SlotLine) → AreApart lines
-    → (faulty : List ℕ) (run : List (List State)) → IsBorne plan faulty → Run plan faulty run
+    → (faulty : List ℕ) (run : List (List State)) → IsToleratedBy plan faulty → Run plan faulty run
     → (t : ℕ) → plan_bound plan ≤ t → t < length run
     → (u v : ℕ) → HoldsIn plan lines faulty (configuration run t) u
     → HoldsIn plan lines faulty (configuration run t) v → u ≡ v

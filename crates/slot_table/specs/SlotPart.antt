@@ -67,7 +67,7 @@ part_for nodes modulus number lines =
     part_from (with_skips slots_step Form) Form (no_lines nodes modulus) 0 number lines
 
 -- a line is of one of so many nodes and of outputs below that modulus
-pub record IsFor (nodes modulus : ℕ) (line : SlotLine) : Type 0 where
+pub record IsLineFor (nodes modulus : ℕ) (line : SlotLine) : Type 0 where
   pub node : line.node < nodes
   pub order : line.first ≤ line.last
   pub output : line.last < modulus
@@ -75,7 +75,7 @@ pub record IsFor (nodes modulus : ℕ) (line : SlotLine) : Type 0 where
 -- what holds of the lines of a table that was read for these
 pub record IsTable (nodes modulus : ℕ) (lines : List SlotLine) : Type 0 where
   pub many : length lines ≤ 256
-  pub each : All (IsFor nodes modulus) lines
+  pub each : All (IsLineFor nodes modulus) lines
   pub apart : AreApart lines
 
 -- ---- the same for the nodes and outputs of a plan

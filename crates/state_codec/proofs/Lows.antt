@@ -13,7 +13,7 @@ use Rattle.construction.specs.Plans.{Plan, plan_low, plan_nodes}
 use Rattle.state_codec.specs.Shapes.{Fields, no_fields, to_depth, fields_at, Shape, IsFields}
 use Rattle.state_codec.specs.Shapes.{IsShape, AreAll, moduli_from, fields_from, all_over}
 use Rattle.state_codec.specs.Shapes.{shape_over}
-use Rattle.state_codec.specs.ShapesKept.{IsKept}
+use Rattle.state_codec.specs.ShapesKept.{IsValidShape}
 
 -- a list that is made item by item
 pub made_more : {X : Type 0} (f : ℕ → X) (i : ℕ) (x : X) (xs : List X)
@@ -149,7 +149,7 @@ fields_limited shape v sound =
 
 -- the fields of a node are those of its kind
 pub kind_at : (shape : Shape) (kinds : List Fields) (which : List ℕ) (v kind : ℕ) (found : Fields)
-    → IsKept shape kinds which → v < length which → kind ≡ get_or which v 0
+    → IsValidShape shape kinds which → v < length which → kind ≡ get_or which v 0
     → found ≡ get_or kinds kind found → found ≡ fields_at shape v
 kind_at shape kinds which v kind found kept lt same is =
     let below : kind

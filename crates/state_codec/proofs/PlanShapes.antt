@@ -10,7 +10,7 @@ use Rattle.construction.specs.Plans.{Plan, plan_low, plan_nodes, plan_depth}
 use Rattle.construction.proofs.Ranges.{low_most}
 use Rattle.state_codec.specs.Shapes.{Fields, no_fields, Shape, IsShape, lows_of, fields_from}
 use Rattle.state_codec.specs.Shapes.{all_over, shape_over}
-use Rattle.state_codec.specs.ShapesKept.{fields_by, IsKept}
+use Rattle.state_codec.specs.ShapesKept.{fields_by, IsValidShape}
 use Rattle.state_codec.proofs.Lows.{made_at, length-moduli_from}
 
 module _ (plan : Plan) (moduli : List ℕ) (kinds : List Fields) (which : List ℕ)
@@ -53,7 +53,7 @@ module _ (plan : Plan) (moduli : List ℕ) (kinds : List Fields) (which : List �
 
   pub plan_kept : (depth : ℕ) → depth ≡ length moduli → plan_nodes plan ≤ 256
       → IsShape (shape_over plan moduli)
-      → IsKept (record { depth = depth; fields = fields_by kinds which }) kinds which
+      → IsValidShape (record { depth = depth; fields = fields_by kinds which }) kinds which
   plan_kept depth deep nodes sound = record {
     sound = subst IsShape (sym (shape_is depth deep)) sound;
     nodes = omega (arith, many, nodes);

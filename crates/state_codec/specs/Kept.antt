@@ -4,7 +4,7 @@ use Rattle.std.specs.Prelude.{◌≡◌, ℕ, ◌+◌, ◌-◌, ◌^◌, ◌<◌
 use Rattle.construction.specs.Widths.{width}
 use Rattle.state_codec.specs.Shapes.{IsFields, bits_in, register_bits, registers_bits}
 
-pub record IsKept (base : ℕ) (moduli offsets sizes : List ℕ) (front size : ℕ) : Type 0 where
+pub record IsValidFields (base : ℕ) (moduli offsets sizes : List ℕ) (front size : ℕ) : Type 0 where
   pub fields : IsFields (record { base = base; moduli = moduli })
   pub room : length offsets ≡ length moduli
   pub begins : (i : ℕ) → i < length moduli

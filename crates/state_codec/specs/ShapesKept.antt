@@ -7,7 +7,7 @@ abbrev pub fields_by : List Fields → (which : List ℕ) → List Fields
 fields_by kinds which = map (λ kind. slice_index_or kinds kind no_fields) which
 
 -- a shape within the limits, whose nodes have fields of these kinds, all of its depth
-pub record IsKept (shape : Shape) (kinds : List Fields) (which : List ℕ) : Type 0 where
+pub record IsValidShape (shape : Shape) (kinds : List Fields) (which : List ℕ) : Type 0 where
   pub sound : IsShape shape
   pub nodes : length which ≤ 256
   pub fields : shape.fields ≡ fields_by kinds which

@@ -27,10 +27,6 @@ abbrev pub bits_of_state : Fields → State → List Bool
 bits_of_state fields state =
     bits (width fields.base) state.x ++ bits_of_registers fields.moduli state.registers
 
--- a state that is a number alone
-abbrev pub number_alone : ℕ → State
-number_alone x = record { x = x; registers = [] }
-
 -- zeros up to a whole byte
 abbrev pub padding : Fields → List Bool
 padding fields = replicate (8 * bytes_in fields - bits_in fields) false

@@ -39,14 +39,14 @@ pub struct Fields {
 
 impl Model for Fields {
     ghost use Rattle.state_codec.specs.Shapes.{Fields};
-    ghost use Rattle.state_codec.specs.Kept.{IsKept};
+    ghost use Rattle.state_codec.specs.Kept.{IsValidFields};
 
     ghost Value = { Fields };
 
     ghost view = { λ s. record { base = s.base; moduli = s.moduli.items } };
 
     ghost invariant = { λ s.
-        IsKept s.base s.moduli.items s.offsets.items s.sizes.items s.front s.size };
+        IsValidFields s.base s.moduli.items s.offsets.items s.sizes.items s.front s.size };
 }
 
 /// How many bits a register has; one that is lacking has none.

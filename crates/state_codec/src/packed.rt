@@ -3,7 +3,6 @@ ghost use Rattle.sync_types.specs.States.{register_at};
 ghost use Rattle.construction.specs.Steps.{state_of};
 ghost use Rattle.state_codec.specs.Shapes.{fields_at, shape_nodes, IsShape};
 ghost use Rattle.state_codec.specs.Ranges.{InRange};
-ghost use Rattle.state_codec.specs.Writing.{number_alone};
 ghost use Rattle.state_codec.specs.Packs.{zeros};
 
 use crate::shapes::StateShape;
@@ -142,16 +141,6 @@ impl Packed {
         ensures { self.new ≡ record self.old { next = slice_set self.old.next v state.now } }
     {
         self.next[v as usize].copy_from(state);
-    }
-
-    /// Makes a number alone the next state of node `v`, if states have no registers.
-    pub fn put_number(&mut self, v: u32, x: u64)
-        requires node { v < length self.old.next }
-        requires range { InRange (fields_at self.old.shape v) (number_alone x) }
-        ensures { self.new
-            ≡ record self.old { next = slice_set self.old.next v (number_alone x) } }
-    {
-        self.next[v as usize].set_x(x);
     }
 
     /// Makes a state the current one of node `v`.

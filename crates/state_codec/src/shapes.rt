@@ -41,7 +41,7 @@ impl Drop for StateShape {
 
 impl Model for StateShape {
     ghost use Rattle.state_codec.specs.Shapes.{Shape};
-    ghost use Rattle.state_codec.specs.ShapesKept.{fields_by, IsKept};
+    ghost use Rattle.state_codec.specs.ShapesKept.{fields_by, IsValidShape};
 
     ghost Value = { Shape };
 
@@ -49,7 +49,7 @@ impl Model for StateShape {
         record { depth = s.depth; fields = fields_by s.kinds.items s.which.items } };
 
     ghost invariant = { λ s.
-        IsKept (record { depth = s.depth; fields = fields_by s.kinds.items s.which.items })
+        IsValidShape (record { depth = s.depth; fields = fields_by s.kinds.items s.which.items })
         s.kinds.items s.which.items };
 }
 

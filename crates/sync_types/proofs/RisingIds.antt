@@ -11,7 +11,7 @@ use Rattle.std.proofs.lemmas.List.Elements.{All-push, All-get_or}
 use Rattle.std.proofs.lemmas.List.Folds.{list_any-append}
 use Rattle.std.proofs.Math.ListN.{get_or-append}
 use Rattle.std.proofs.Math.Seq.{get_or-append_seam}
-use Rattle.sync_types.specs.FaultSets.{is_in, IsKept}
+use Rattle.sync_types.specs.FaultSets.{is_in, IsValidFaultSet}
 
 -- place i of rising numbers holds at least i
 pub rising_from : (ids : List ℕ) → IsStrictlyIncreasing ids → (i : ℕ) → i < length ids
@@ -81,9 +81,9 @@ marked_push ids id marks marked lt v =
 
 -- the set that is kept after one more id
 pub kept_push : (nodes : ℕ) (ids : List ℕ) (marks : List Bool) (capacity more id : ℕ)
-    → capacity ≤ more → IsKept nodes ids marks capacity → id < nodes
+    → capacity ≤ more → IsValidFaultSet nodes ids marks capacity → id < nodes
     → (0 < length ids → get_or ids (length ids - 1) 0 < id)
-    → IsKept nodes (ids ++ id ∷ []) (set marks id true) more
+    → IsValidFaultSet nodes (ids ++ id ∷ []) (set marks id true) more
 kept_push nodes ids marks capacity more id le kept lt above = record {
   rising = rising_push ids id kept.rising above;
   below = All-push (λ i. i < nodes) ids id kept.below lt;

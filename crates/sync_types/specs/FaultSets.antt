@@ -20,7 +20,8 @@ pub record AreFaulty (set : FaultIds) : Type 0 where
 
 -- What a set keeps: its ids, room for as many as there are nodes, and for each node a mark, whether
 -- its id is among them.
-pub record IsKept (nodes : ℕ) (ids : List ℕ) (marks : List Bool) (capacity : ℕ) : Type 0 where
+pub record IsValidFaultSet (nodes : ℕ) (ids : List ℕ) (marks : List Bool)
+    (capacity : ℕ) : Type 0 where
   pub rising : IsStrictlyIncreasing ids
   pub below : All (λ id. id < nodes) ids
   pub size : length marks ≡ nodes

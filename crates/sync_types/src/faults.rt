@@ -30,13 +30,14 @@ impl Drop for FaultSet {
 
 impl Model for FaultSet {
     ghost use Rattle.std.specs.Prelude.{vec_capacity};
-    ghost use Rattle.sync_types.specs.FaultSets.{FaultIds, IsKept};
+    ghost use Rattle.sync_types.specs.FaultSets.{FaultIds, IsValidFaultSet};
 
     ghost Value = { FaultIds };
 
     ghost view = { λ s. record { nodes = s.nodes; ids = s.ids.items } };
 
-    ghost invariant = { λ s. IsKept s.nodes s.ids.items s.marks.items (vec_capacity s.ids) };
+    ghost invariant = { λ s. IsValidFaultSet s.nodes s.ids.items s.marks.items
+        (vec_capacity s.ids) };
 }
 
 impl FaultSet {

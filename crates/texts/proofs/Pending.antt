@@ -62,22 +62,22 @@ sized acc (b ∷ bs) =
     sized_by acc b bs (eqb b 10) refl (sized [] bs) (sized (acc ++ b ∷ []) bs)
 
 -- so many bytes are within the room
-abbrev Fits : Option ℕ → ℕ → Type 0
-Fits None n = Unit {0}
-Fits (Some left) n = n ≤ left
+abbrev HasRoomFor : Option ℕ → ℕ → Type 0
+HasRoomFor None n = Unit {0}
+HasRoomFor (Some left) n = n ≤ left
 
-fits_shown : (room : Option ℕ) (line : List ℕ) (n : ℕ) → Fits room (length line + 1 + n)
+fits_shown : (room : Option ℕ) (line : List ℕ) (n : ℕ) → HasRoomFor room (length line + 1 + n)
     → shows room line ≡ true
 fits_shown None line n h = refl
 fits_shown (Some left) line n h = le-leb (min (length line + 1) 4097) left (omega (arith, h))
 
-fits_less : (room : Option ℕ) (line : List ℕ) (n : ℕ) → Fits room (length line + 1 + n)
-    → Fits (less room line) n
+fits_less : (room : Option ℕ) (line : List ℕ) (n : ℕ) → HasRoomFor room (length line + 1 + n)
+    → HasRoomFor (less room line) n
 fits_less None line n h = tt
 fits_less (Some left) line n h =
     let goal : n ≤ left - min (length line + 1) 4097 = omega (arith, h) in goal
 
-fits_of : (longer : Bool) (left n : ℕ) → n ≤ left → Fits (room_of longer left) n
+fits_of : (longer : Bool) (left n : ℕ) → n ≤ left → HasRoomFor (room_of longer left) n
 fits_of true left n h = h
 fits_of false left n h = tt
 
@@ -143,7 +143,7 @@ module _ {S V R : Type 0} (step : S → List ℕ → Next S V R) (form : R) wher
 
   -- if lines alone lack an end, a part with more lines after them comes to these
   goes_by : (first : ℕ) (more lines : List (List ℕ)) (s : S) (taken number : ℕ) (room : Option ℕ)
-      → number ≡ first + taken → Fits room (bytes_of lines)
+      → number ≡ first + taken → HasRoomFor room (bytes_of lines)
       → part_from full (by form) (None, s) taken number lines
       ≡ Err (record { line = number + length lines; rule = by form })
       → IsBehind first (taken + length lines)
@@ -185,7 +185,7 @@ module _ {S V R : Type 0} (step : S → List ℕ → Next S V R) (form : R) wher
 
   -- if lines alone are a part, it ends there too
   ends_by : (more lines : List (List ℕ)) (s : S) (taken number : ℕ) (room : Option ℕ)
-      (found : Found (Option ℕ × V)) → Fits room (bytes_of lines)
+      (found : Found (Option ℕ × V)) → HasRoomFor room (bytes_of lines)
       → part_from full (by form) (None, s) taken number lines ≡ Ok found
       → EndsAt found.taken (part_from full (by form) (room, s) taken number (lines ++ more))
   ends_by more [] s taken number room found fits h = absurd cc
@@ -223,7 +223,7 @@ module _ {S V R : Type 0} (step : S → List ℕ → Next S V R) (form : R) wher
     abbrev more : List (List ℕ)
     more = split (open_from [] bytes ++ rest)
 
-    fits : Fits (room_of longer left) (bytes_of (whole_lines bytes))
+    fits : HasRoomFor (room_of longer left) (bytes_of (whole_lines bytes))
     fits =
         let few = sized [] bytes in
         fits_of longer left (bytes_of (whole_lines bytes)) (omega (arith, few, within))

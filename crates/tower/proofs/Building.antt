@@ -10,7 +10,7 @@ use Rattle.plan_numbers.specs.declared.numbers.LevelNums.{LevelNums}
 use Rattle.plan_numbers.specs.Numbers.{numbers_below, level_numbers, levels_in}
 use Rattle.plan_numbers.specs.Premises.{IsAccepted}
 use Rattle.plan_numbers.proofs.LevelLaws.{levels_in-numbers_of, length-numbers_of}
-use Rattle.tower.specs.Kept.{IsKept}
+use Rattle.tower.specs.Kept.{IsValidTower}
 
 -- one more item of a list
 pub take_next : {X : Type 0} (xs : List X) (i : ℕ) (x : X) → slice_get xs i ≡ Some x
@@ -37,7 +37,7 @@ module _ (plan : Plan) (version base i : ℕ) (items : List LevelNums)
 
   -- and are kept
   pub kept : (whole : Below) → IsAccepted plan → whole ≡ numbers_below plan
-      → IsKept version base items whole
+      → IsValidTower version base items whole
   kept whole accepted together = record {
     accepted = subst IsAccepted (sym same_plan) accepted;
     numbers = whole_numbers ∙ ap level_numbers (sym same_plan);

@@ -5,7 +5,8 @@ use Rattle.sync_types.specs.declared.states.Reg.{Reg}
 use Rattle.sync_types.specs.States.{State, zero_register, register_at}
 use Rattle.plan_numbers.specs.Numbers.{level_of}
 use Rattle.plan_numbers.specs.Sizes.{block_nodes}
-use Rattle.shared_board.specs.GroupVotes.{Contents, HasRoom, Stands, AreBelow, AreLies, register_heard}
+use Rattle.shared_board.specs.GroupVotes.{Contents, HasRoom, Stands, AreBelow, AreLies}
+use Rattle.shared_board.specs.GroupVotes.{register_heard}
 use Rattle.shared_board.specs.Sharing.{honest_in}
 use Rattle.shared_board.specs.Groups.{Group}
 use Rattle.shared_board.specs.Boards.{Board, sent_of}
@@ -30,7 +31,7 @@ abbrev pub IsReady : Placing → Type 0
 IsReady placed = HasRoom placed.group
 
 -- it has the room that it needs, and the board has its level and its nodes
-pub record Fits (board : Board) (placed : Placing) : Type 0 where
+pub record IsPlacedOn (board : Board) (placed : Placing) : Type 0 where
   pub ready : IsReady placed
   pub height : placed.height < board.depth
   pub within : placed.group.first + placed.group.nums.nodes ≤ length board.states

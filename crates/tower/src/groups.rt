@@ -10,7 +10,8 @@ ghost use Rattle.shared_board.specs.Boards.{Board, sent_of};
 ghost use Rattle.shared_board.specs.Groups.{groups_of};
 ghost use Rattle.shared_board.specs.Sharing.{place_among};
 ghost use Rattle.tower.specs.Heeding.{Holds, IsShut, LeadsIn, AreShut};
-ghost use Rattle.tower.specs.Placings.{key_of, cost_of, IsReady, Fits, CanStep, Leads, register_by};
+ghost use Rattle.tower.specs.Placings.{key_of, cost_of, IsReady, IsPlacedOn, CanStep, Leads};
+ghost use Rattle.tower.specs.Placings.{register_by};
 ghost use Rattle.tower.specs.Placings.{row_register};
 ghost use Rattle.tower.specs.Sharing.{AllStand};
 
@@ -59,7 +60,7 @@ impl Placed {
     /// Counts what it has of a board. The answer is whether all its registers are locked at one
     /// value.
     fn gather<G: Ledger>(&mut self, board: &Board, steps: &mut Steps<G>) -> bool
-        requires { Fits board.now self.old }
+        requires { IsPlacedOn board.now self.old }
         ensures stands { Stands (sent_of board.now self.new.height) self.new.group }
         ensures same_height { self.new.height ≡ self.old.height }
         ensures same_nums { self.new.group.nums ≡ self.old.group.nums }
@@ -174,7 +175,7 @@ pub(crate) fn gather_groups<G: Ledger>(
     groups: &mut [Placed],
     steps: &mut Steps<G>,
 ) -> bool
-    requires { All (Fits board.now) groups.old }
+    requires { All (IsPlacedOn board.now) groups.old }
     ensures keys { map key_of groups.new ≡ map key_of groups.old }
     ensures stand { AllStand board.now groups.new }
     ensures steps { steps.new ≤ steps.old + 3 * sum_by (cost_of board.now) groups.old }

@@ -1,6 +1,6 @@
 ghost use Rattle.std.specs.Prelude.{◌≡◌, ◌≤◌, take, map, length, All};
 ghost use Rattle.construction.specs.Shown.{shown};
-ghost use Rattle.counter_core.specs.Working.{IsFor, IsAsRoomy};
+ghost use Rattle.counter_core.specs.Working.{IsWorkFor, IsAsRoomy};
 
 use counter_core::{Heard, Work, shown};
 
@@ -9,7 +9,7 @@ use counter_core::{Heard, Work, shown};
 pub fn set_outputs(levels: usize, nodes: u32, group: &Heard<'_>, work: &mut Work)
     requires nodes { nodes ≤ length group.now }
     requires deep { All (λ s. levels ≤ length s.registers) group.now }
-    requires work { IsFor (length group.now) work.old }
+    requires work { IsWorkFor (length group.now) work.old }
     ensures outputs { take nodes work.new.outputs.items
         ≡ map (shown levels) (take nodes group.now) }
     ensures work { IsAsRoomy work.old work.new }

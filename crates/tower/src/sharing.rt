@@ -63,14 +63,6 @@ impl Tower {
         })
     }
 
-    /// The number that follows `x` at a node that has a number. `x` is below the base.
-    pub fn next_number(&self, x: u64) -> u64
-        requires { x < self.now.base }
-        ensures { result ≡ up self.now.base x }
-    {
-        after(x, self.base)
-    }
-
     /// Counts the correct nodes of the current states of a configuration, so that `shared` stands
     /// for these and the faulty set. It takes no memory, and at most three steps a level for each
     /// correct node.

@@ -4,7 +4,7 @@ ghost use Rattle.construction.specs.Steps.{step_in};
 ghost use Rattle.plan_numbers.specs.Numbers.{levels_in};
 ghost use Rattle.plan_numbers.specs.Stacked.{AreLevels, AreSomeLevels};
 ghost use Rattle.counter_core.specs.Meanings.{written};
-ghost use Rattle.counter_core.specs.Working.{IsFor, IsAsRoomy};
+ghost use Rattle.counter_core.specs.Working.{IsWorkFor, IsAsRoomy};
 ghost use Rattle.tower.specs.GroupStates.{AreGroupStates};
 
 use crate::registers::set_outputs;
@@ -38,7 +38,7 @@ pub(crate) fn step_in(
     requires levels { AreLevels base levels.now }
     requires place { place < nodes_of (levels_in levels.now) }
     requires group { AreGroupStates base (levels_in levels.now) group.now }
-    requires work { IsFor (length group.now) work.old }
+    requires work { IsWorkFor (length group.now) work.old }
     requires out { length levels.now ≤ length out.old.registers }
     ensures work { IsAsRoomy work.old work.new }
     ensures out { out.new ≡ written (length levels.now)

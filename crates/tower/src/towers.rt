@@ -2,7 +2,7 @@ ghost use Rattle.std.specs.Prelude.{◌≡◌, replicate, IfOk};
 ghost use Rattle.construction.specs.Plans.{plan_nodes};
 ghost use Rattle.construction.specs.Runs.{Settles};
 ghost use Rattle.plan_numbers.specs.Premises.{IsAccepted};
-ghost use Rattle.counter_core.specs.Working.{IsFor};
+ghost use Rattle.counter_core.specs.Working.{IsWorkFor};
 ghost use Rattle.plan_laws.specs.PlanMeaning.{plan_meaning, IsInRange};
 ghost use Rattle.plan_laws.proofs.PlanCounter.{plan_sizes, plan_stays, plan_ignores, plan_zero};
 ghost use Rattle.plan_laws.proofs.RunLaws.{plan_settles};
@@ -26,7 +26,7 @@ pub struct Tower {
 impl Model for Tower {
     ghost use Rattle.construction.specs.Plans.{Plan};
     ghost use Rattle.plan_numbers.specs.Numbers.{levels_in};
-    ghost use Rattle.tower.specs.Kept.{IsKept};
+    ghost use Rattle.tower.specs.Kept.{IsValidTower};
 
     ghost Value = { Plan };
 
@@ -36,7 +36,7 @@ impl Model for Tower {
       levels = levels_in t.levels.items;
     } };
 
-    ghost invariant = { λ t. IsKept t.version t.base t.levels.items t.whole };
+    ghost invariant = { λ t. IsValidTower t.version t.base t.levels.items t.whole };
 }
 
 /// Builds the counter of a plan. It takes all the memory that the counter ever needs; steps need a
@@ -69,7 +69,7 @@ impl Tower {
     /// The room that steps of this counter need, with each inner output 0. The only error is want
     /// of memory.
     pub fn work(&self, alloc: Global) -> Result<Work, NoMemory>
-        ensures room { IfOk result (IsFor (plan_nodes self.now)) }
+        ensures room { IfOk result (IsWorkFor (plan_nodes self.now)) }
         ensures outputs { IfOk result
             (λ work. work.outputs.items ≡ replicate (plan_nodes self.now) 0) }
     {

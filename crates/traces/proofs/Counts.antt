@@ -4,12 +4,12 @@ use Rattle.counting.specs.Values.{count_of, least_above}
 use Rattle.pulse_plan.specs.LevelStates.{LevelState, says_left, says_right, values_of}
 use Rattle.pulse_plan.specs.Groups.{PulseGroup, sizes_of}
 use Rattle.pulse_plan.proofs.Halves.{both_faults}
-use Rattle.traces.specs.declared.counted.Said.{Said}
+use Rattle.traces.specs.declared.counted.HeardCounts.{HeardCounts}
 use Rattle.traces.specs.Counted.{counted_part}
 use Rattle.traces.specs.GroupTexts.{heard_part}
 
 -- what is counted in a group that tolerates f faults
-abbrev pub said_of : (f : ℕ) → (own : LevelState) → List LevelState → Said
+abbrev pub said_of : (f : ℕ) → (own : LevelState) → List LevelState → HeardCounts
 said_of f own states = record {
   left = says_left states;
   right = says_right states;
@@ -17,17 +17,18 @@ said_of f own states = record {
   least = least_above f (values_of states);
 }
 
-said_is : (f : ℕ) (own : LevelState) (states : List LevelState) (said : Said)
+said_is : (f : ℕ) (own : LevelState) (states : List LevelState) (said : HeardCounts)
     → said.left ≡ says_left states → said.right ≡ says_right states
     → said.same ≡ count_of (values_of states) own.register.a
     → said.least ≡ least_above f (values_of states)
     → said ≡ said_of f own states
 said_is f own states said left right same least =
-    ap₂ (λ (a b : ℕ). let s : Said = record said { left = a; right = b } in s) left right
+    ap₂ (λ (a b : ℕ). let s : HeardCounts = record said { left = a; right = b } in s) left right
     ∙ ap₂ (λ (a : ℕ) (b : Option ℕ).
-    let s : Said = record (said_of f own states) { same = a; least = b } in s) same least
+    let s : HeardCounts = record (said_of f own states) { same = a; least = b } in s) same least
 
-pub counted_is : (group : PulseGroup) (own : LevelState) (states : List LevelState) (said : Said)
+pub counted_is : (group : PulseGroup) (own : LevelState) (states : List LevelState)
+    (said : HeardCounts)
     → 0 < group.faults → said.left ≡ says_left states → said.right ≡ says_right states
     → said.same ≡ count_of (values_of states) own.register.a
     → said.least ≡ least_above group.faults (values_of states)

@@ -4,7 +4,7 @@ use Rattle.std.specs.List.{concat}
 use Rattle.pulse_plan.specs.LevelStates.{LevelState, echoed, backed}
 use Rattle.pulse_plan.specs.PulseMachineLevelStates.{left_fires, right_fires}
 use Rattle.traces.specs.Words.{number_or_none}
-use Rattle.traces.specs.declared.counted.Said.{Said}
+use Rattle.traces.specs.declared.counted.HeardCounts.{HeardCounts}
 
 -- the grade of a pulse, by whether it is echoed and whether it is backed
 abbrev pub grade_word : (echo back : Bool) → List ℕ
@@ -23,7 +23,7 @@ fires_word true true = codes " both"
 abbrev pub grade_of : (nodes f says : ℕ) → List ℕ
 grade_of nodes f says = grade_word (echoed nodes f says) (backed nodes f says)
 
-abbrev pub counted_part : (nodes f : ℕ) → (own : LevelState) → Said → List ℕ
+abbrev pub counted_part : (nodes f : ℕ) → (own : LevelState) → HeardCounts → List ℕ
 counted_part nodes f own said =
     concat (codes " left said " ∷ decimal said.left ∷ grade_of nodes f said.left
     ∷ codes " right said " ∷ decimal said.right ∷ grade_of nodes f said.right

@@ -17,7 +17,7 @@ use pulse_plan::{Group, LevelState, count_group};
 
 /// What a node counts of the nodes of a group.
 #[derive(Clone, Copy, Debug)]
-pub struct Said {
+pub struct HeardCounts {
     /// How many say that they saw the left half's pulse.
     pub left: usize,
     /// How many say that they saw the right half's pulse.
@@ -29,7 +29,12 @@ pub struct Said {
 }
 
 /// Counts what a node of a group, which has this level state, hears of it. It takes no memory.
-pub fn count_said(group: &Group, own: &LevelState, heard: &Heard<'_>, values: &mut Tally) -> Said
+pub fn count_said(
+    group: &Group,
+    own: &LevelState,
+    heard: &Heard<'_>,
+    values: &mut Tally,
+) -> HeardCounts
     requires within { group.now.first + group.now.nodes ≤ length heard.now }
     requires deep { All (λ s. group.now.register + 4 ≤ length s.registers) heard.now }
     requires room { group.now.nodes ≤ values.old.capacity }
@@ -48,7 +53,7 @@ pub fn count_said(group: &Group, own: &LevelState, heard: &Heard<'_>, values: &m
     let stretch = heard.stretch(group.first(), nodes);
     let registers = HeardRegister::of(&stretch, group.register(), nodes, faults);
     let least = registers.least(value, counts.same, values);
-    Said {
+    HeardCounts {
         left: counts.saw_left,
         right: counts.saw_right,
         same: counts.same,
@@ -84,7 +89,7 @@ fn fires_word(left: bool, right: bool) -> &'static str
 }
 
 /// For which halves a node of a group fires that has this level state and counts this.
-fn fires(group: &Group, own: &LevelState, said: &Said) -> &'static str
+fn fires(group: &Group, own: &LevelState, said: &HeardCounts) -> &'static str
     ensures { result.now
         ≡ fires_word (left_fires group.now.nodes group.now.faults own.now said.now.left)
         (right_fires group.now.nodes group.now.faults own.now said.now.right) }
@@ -97,7 +102,12 @@ fn fires(group: &Group, own: &LevelState, said: &Said) -> &'static str
 }
 
 /// Writes what a node of a group, which has this level state, counts of it.
-pub fn put_said<K: Sink>(writer: &mut Writer<'_, K>, group: &Group, own: &LevelState, said: &Said)
+pub fn put_said<K: Sink>(
+    writer: &mut Writer<'_, K>,
+    group: &Group,
+    own: &LevelState,
+    said: &HeardCounts,
+)
     ensures { Writes K.told (counted_part group.now.nodes group.now.faults own.now said.now)
         writer.old writer.new }
 {

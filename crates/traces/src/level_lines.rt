@@ -5,7 +5,7 @@ ghost use Rattle.construction.specs.Plans.{nodes_of};
 ghost use Rattle.edge_io.specs.Writing.{Writes};
 ghost use Rattle.plan_numbers.specs.Numbers.{levels_in};
 ghost use Rattle.plan_numbers.specs.Stacked.{AreSomeLevels};
-ghost use Rattle.counter_core.specs.Working.{IsFor, IsAsRoomy};
+ghost use Rattle.counter_core.specs.Working.{IsWorkFor, IsAsRoomy};
 ghost use Rattle.traces.specs.LevelTexts.{level_lines};
 ghost use Rattle.traces.specs.Views.{StandsIn};
 
@@ -49,7 +49,7 @@ impl Place<'_> {
 
     /// Writes what the node hears of the group, if nodes hear one another.
     fn put_heard_if<K: Sink>(&self, writer: &mut Writer<'_, K>, own: Option<u64>, work: &mut Work)
-        requires { IsFor (length self.now.group) work.old }
+        requires { IsWorkFor (length self.now.group) work.old }
         ensures part { Writes K.told (heard_if self.now.view.hears self.now.below
             (block_nodes self.now.nums) (level_of self.now.nums) self.now.first own self.now.group)
             writer.old writer.new }
@@ -62,7 +62,7 @@ impl Place<'_> {
 
     /// Writes the line of the level, by what the node hears of the group.
     fn put_level_line<K: Sink>(&self, writer: &mut Writer<'_, K>, work: &mut Work)
-        requires { IsFor (length self.now.group) work.old }
+        requires { IsWorkFor (length self.now.group) work.old }
         ensures line { Writes K.told (level_line self.now.view.heading
             self.now.view.faulty.now.ids self.now.view.config.now self.now.view.hears
             self.now.below (block_nodes self.now.nums) (level_of self.now.nums) self.now.first
@@ -91,7 +91,7 @@ pub fn put_levels<K: Sink>(
     requires stands { StandsIn view.now levels.now place }
     requires group { length group.now ≡ nodes_of (levels_in levels.now) }
     requires deep { All (λ s. length levels.now ≤ length s.registers) group.now }
-    requires work { IsFor (length group.now) work.old }
+    requires work { IsWorkFor (length group.now) work.old }
     ensures lines { Writes K.told (level_lines view.now.heading view.now.faulty.now.ids
         view.now.config.now view.now.hears (levels_in levels.now) place group.now)
         writer.old writer.new }

@@ -15,7 +15,7 @@ impl Place<'_> {
     ghost use Rattle.edge_io.specs.Writing.{Writes};
     ghost use Rattle.plan_numbers.specs.Numbers.{level_of};
     ghost use Rattle.plan_numbers.specs.Sizes.{block_nodes};
-    ghost use Rattle.counter_core.specs.Working.{IsFor, IsAsRoomy};
+    ghost use Rattle.counter_core.specs.Working.{IsWorkFor, IsAsRoomy};
     ghost use Rattle.boost_step.specs.Kept.{KeepsOutputs};
     ghost use Rattle.boost_step.specs.Numbers.{in_blocks};
     ghost use Rattle.traces.specs.LevelTexts.{votes_part, turn_part, counts_part};
@@ -23,7 +23,7 @@ impl Place<'_> {
 
     /// Writes the vote of each block.
     fn put_each_vote<K: Sink>(&self, writer: &mut Writer<'_, K>, work: &mut Work)
-        requires { IsFor self.now.nums.nodes work.old }
+        requires { IsWorkFor self.now.nums.nodes work.old }
         ensures words { Writes K.told (flat_map (vote_word (block_nodes self.now.nums)
             (level_of self.now.nums) (take (in_blocks self.now.nums) work.old.outputs.items))
             (range_with_len 0 self.now.nums.blocks)) writer.old writer.new }
@@ -37,7 +37,7 @@ impl Place<'_> {
 
     /// Writes the votes of the blocks.
     fn put_votes<K: Sink>(&self, writer: &mut Writer<'_, K>, work: &mut Work)
-        requires { IsFor self.now.nums.nodes work.old }
+        requires { IsWorkFor self.now.nums.nodes work.old }
         ensures part { Writes K.told (votes_part (block_nodes self.now.nums)
             (level_of self.now.nums)
             (take (in_blocks self.now.nums) work.old.outputs.items)) writer.old writer.new }
@@ -49,7 +49,7 @@ impl Place<'_> {
 
     /// Writes the lead, the position that is heard of the beat, and whose phase that is.
     fn put_turn<K: Sink>(&self, writer: &mut Writer<'_, K>, work: &mut Work)
-        requires { IsFor self.now.nums.nodes work.old }
+        requires { IsWorkFor self.now.nums.nodes work.old }
         ensures part { Writes K.told (turn_part (block_nodes self.now.nums) (level_of self.now.nums)
             self.now.first (take (in_blocks self.now.nums) work.old.outputs.items))
             writer.old writer.new }
@@ -84,7 +84,7 @@ impl Place<'_> {
     /// Writes at how many places the node's own value is heard, and the least value that more
     /// places have than may be faulty.
     fn put_counts<K: Sink>(&self, writer: &mut Writer<'_, K>, own: Option<u64>, work: &mut Work)
-        requires { IsFor (length self.now.group) work.old }
+        requires { IsWorkFor (length self.now.group) work.old }
         ensures part { Writes K.told (counts_part self.now.nums.faults own
             (map (λ s. (register_at self.now.below s).a) self.now.group)) writer.old writer.new }
         ensures work { IsAsRoomy work.old work.new }
@@ -102,7 +102,7 @@ impl Place<'_> {
 
     /// Writes what the node, which has this value, hears of the group.
     pub fn put_heard<K: Sink>(&self, writer: &mut Writer<'_, K>, own: Option<u64>, work: &mut Work)
-        requires { IsFor (length self.now.group) work.old }
+        requires { IsWorkFor (length self.now.group) work.old }
         ensures part { Writes K.told (heard_part self.now.below (block_nodes self.now.nums)
             (level_of self.now.nums) self.now.first own self.now.group) writer.old writer.new }
         ensures work { IsAsRoomy work.old work.new }

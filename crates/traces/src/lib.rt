@@ -23,7 +23,7 @@ mod views;
 mod wants;
 mod words;
 
-pub use counted::Said;
+pub use counted::HeardCounts;
 pub use desks::TraceBuffers;
 pub use headings::Heading;
 pub use pulse_desks::PulseBuffers;

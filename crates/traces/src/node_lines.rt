@@ -6,7 +6,7 @@ ghost use Rattle.construction.specs.Steps.{state_of};
 ghost use Rattle.edge_io.specs.Writing.{Writes};
 ghost use Rattle.plan_numbers.specs.Numbers.{levels_in};
 ghost use Rattle.plan_numbers.specs.Stacked.{AreSomeLevels};
-ghost use Rattle.counter_core.specs.Working.{IsFor, IsAsRoomy};
+ghost use Rattle.counter_core.specs.Working.{IsWorkFor, IsAsRoomy};
 ghost use Rattle.traces.specs.NodeTexts.{number_of_node, state_line, view_text};
 ghost use Rattle.traces.specs.Views.{StandsIn};
 
@@ -55,7 +55,7 @@ pub fn put_node<K: Sink>(
     requires stands { StandsIn view.now levels.now view.now.heading.node }
     requires heard { length heard.now ≡ nodes_of (levels_in levels.now) }
     requires deep { All (λ s. length levels.now ≤ length s.registers) heard.now }
-    requires work { IsFor (length heard.now) work.old }
+    requires work { IsWorkFor (length heard.now) work.old }
     ensures lines { Writes K.told (view_text view.now.heading view.now.faulty.now.ids
         view.now.config.now view.now.hears (levels_in levels.now) heard.now) writer.old writer.new }
     ensures work { IsAsRoomy work.old work.new }

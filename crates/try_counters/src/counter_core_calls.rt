@@ -1,7 +1,7 @@
 ghost use Rattle.std.specs.Prelude.{◌≡◌, ◌+◌, ◌<◌, ◌≤◌, ◌++◌, length, slice_set, All};
 ghost use Rattle.construction.specs.Steps.{state_of};
 ghost use Rattle.counter_core.specs.Overlays.{LayerFits, HasValues, after};
-ghost use Rattle.counter_core.specs.Working.{IsFor, IsAsRoomy};
+ghost use Rattle.counter_core.specs.Working.{IsWorkFor, IsAsRoomy};
 ghost use Rattle.try_counters.specs.Hearing.{AreHeard};
 ghost use Rattle.try_counters.specs.Repeats.{repeat_layer, repeat_layer_keeps};
 
@@ -83,7 +83,7 @@ fn step_with<C: Counter, O: Overlay>(
     requires node { node < (C.meaning counter.now).nodes }
     requires heard { AreHeard (C.meaning counter.now) (C.in_range counter.now)
         (O.layer layer.old) heard.now }
-    requires work { IsFor (C.meaning counter.now).nodes work.old }
+    requires work { IsWorkFor (C.meaning counter.now).nodes work.old }
     requires out { length out.old.registers
         ≡ (C.meaning counter.now).depth + (O.layer layer.old).extra }
     ensures out { let s = (C.meaning counter.now).next node heard.now in

@@ -6,7 +6,7 @@ use Rattle.sync_types.specs.States.{State}
 use Rattle.construction.specs.Steps.{state_of}
 use Rattle.state_codec.specs.Shapes.{fields_at}
 use Rattle.state_codec.specs.Ranges.{InRange}
-use Rattle.counter_core.specs.Working.{IsFor}
+use Rattle.counter_core.specs.Working.{IsWorkFor}
 use Rattle.adversary_script.proofs.LiesInRange.{depth_of_node}
 use Rattle.round_runner.specs.declared.stepping.RoundBuffers.{RoundBuffers}
 use Rattle.machine_runner.specs.Hearing.{HasRoom}
@@ -27,7 +27,7 @@ step_shared-requires-clause-ready g c =
       told = ap (λ (r : RoundBuffers). length r.lies.items) same ∙ ready.told;
       lies = subst (λ (r : RoundBuffers). AreOfNodes script r.lies.items) (sym same) ready.lies;
       shared = ap (λ (r : RoundBuffers). r.shared.plan) same ∙ ready.shared;
-      work = subst (λ (r : RoundBuffers). IsFor script.nodes r.work) (sym same) ready.work;
+      work = subst (λ (r : RoundBuffers). IsWorkFor script.nodes r.work) (sym same) ready.work;
       out = ap (λ (r : RoundBuffers). length r.out.registers) same ∙ ready.out;
     }
 
@@ -85,8 +85,8 @@ step_layer-requires-clause-set g c =
         lies = c.step_shared.ensures.lies.states;
         shared = ap (λ (r : RoundBuffers). r.shared.plan) same
             ∙ (ap (λ (r : RoundBuffers). r.shared.plan) heed ∙ set.ready.shared);
-        work = subst (λ (r : RoundBuffers). IsFor script.nodes r.work) (sym same)
-            (subst (λ (r : RoundBuffers). IsFor script.nodes r.work) (sym heed) set.ready.work);
+        work = subst (λ (r : RoundBuffers). IsWorkFor script.nodes r.work) (sym same)
+            (subst (λ (r : RoundBuffers). IsWorkFor script.nodes r.work) (sym heed) set.ready.work);
         out = counted_room plan script layer kept t turn.v config can
             c.heed-layers.new.room.out c.step_shared.new.room.out
             (ap (λ (r : RoundBuffers). length r.out.registers) heed ∙ set.ready.out)

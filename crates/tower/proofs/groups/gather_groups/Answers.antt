@@ -14,7 +14,7 @@ use Rattle.shared_board.specs.GroupVotes.{Stands}
 use Rattle.shared_board.specs.Sharing.{honest_in}
 use Rattle.shared_board.specs.Boards.{Board, sent_of}
 use Rattle.tower.specs.Placings.{Placing}
-use Rattle.tower.specs.Placings.{key_of, cost_of, Fits}
+use Rattle.tower.specs.Placings.{key_of, cost_of, IsPlacedOn}
 use Rattle.tower.proofs.groups.gather_groups.Goals as goal
 
 pub loop-g-preserved : goal.loop-g-preserved
@@ -43,7 +43,7 @@ loop-g-preserved g c =
     let one = sum_by-cons (cost_of board) (get_or first at d) [] in
     let height = e.same_height in
     let nodes = ap (λ (m : LevelNums). m.nodes) e.same_nums in
-    let old_fits : Fits board old = i.fits at d less in
+    let old_fits : IsPlacedOn board old = i.fits at d less in
     let key : key_of new ≡ key_of old =
     ap (λ (m : LevelNums).
     record {
@@ -71,7 +71,7 @@ loop-g-preserved g c =
       keys = map-set_same key_of gs at new d key ∙ i.keys;
       costs = map-set_same (cost_of board) gs at new d cost ∙ i.costs;
       size = length-set gs at new ∙ i.size;
-      fits = All-set (Fits board) gs at new
+      fits = All-set (IsPlacedOn board) gs at new
           (record {
             ready = e.stands.room;
             height = omega (arith, height, old_fits.height);

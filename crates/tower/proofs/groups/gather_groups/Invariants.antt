@@ -3,7 +3,7 @@ use Rattle.std.specs.List.{sum_by}
 use Rattle.shared_board.specs.GroupVotes.{Stands}
 use Rattle.shared_board.specs.Boards.{sent_of}
 use Rattle.tower.specs.Placings.{Placing}
-use Rattle.tower.specs.Placings.{key_of, cost_of, Fits}
+use Rattle.tower.specs.Placings.{key_of, cost_of, IsPlacedOn}
 use Rattle.tower.proofs.groups.gather_groups.Given as goal
 
 abbrev pub invariant-loop-g : goal.invariant-loop-g
@@ -11,7 +11,7 @@ invariant-loop-g g l = record {
   keys : map key_of l.groups ≡ map key_of l.initial.groups;
   costs : map (cost_of l.board) l.groups ≡ map (cost_of l.board) l.initial.groups;
   size : length l.groups ≡ length l.initial.groups;
-  fits : All (Fits l.board) l.groups;
+  fits : All (IsPlacedOn l.board) l.groups;
   stand : (i : ℕ) (none : Placing) → i < l.g
       → Stands (sent_of l.board (get_or l.groups i none).height) (get_or l.groups i none).group;
   settled : l.all_settled ≡ true → (i : ℕ) (none : Placing) → i < l.g

@@ -12,7 +12,7 @@ use Rattle.construction.proofs.Ranges.{length-step_in}
 use Rattle.plan_numbers.specs.Numbers.{levels_in}
 use Rattle.plan_numbers.proofs.Stacking.{length-levels_in}
 use Rattle.counter_core.specs.Meanings.{written}
-use Rattle.counter_core.specs.Working.{IsFor}
+use Rattle.counter_core.specs.Working.{IsWorkFor}
 use Rattle.boost_step.proofs.Stepping.{length_written}
 use Rattle.plan_laws.specs.PlanMeaning.{IsWithin}
 use Rattle.tower.proofs.Descent.{below_levels, top_numbers, top_sized, group_nodes, top_range}
@@ -93,7 +93,7 @@ step_in-requires t c =
     (All-block InBelow n (place / n) group within) in
     let own_deep = All-same HasBelow own (block n (place / n) group) mine
     (All-block HasBelow n (place / n) group deep) in
-    let for_work : IsFor (length own) c.level_step-register.new.work = record {
+    let for_work : IsWorkFor (length own) c.level_step-register.new.work = record {
       outputs = omega (arith, room.outputs, set.outputs, outputs, less);
       values = omega (arith, room.values, set.values, kept.values, less);
       votes = omega (arith, room.votes, set.votes, kept.votes, less);

@@ -6,7 +6,7 @@ use Rattle.sync_types.specs.States.{State}
 use Rattle.construction.specs.Votes.{block}
 use Rattle.construction.proofs.Blocks.{All-block, length-block-most}
 use Rattle.plan_numbers.specs.Stacked.{AreSomeLevels}
-use Rattle.counter_core.specs.Working.{IsFor}
+use Rattle.counter_core.specs.Working.{IsWorkFor}
 use Rattle.tower.proofs.Descent.{below_levels, top_numbers, top_sized, group_nodes, place_below}
 use Rattle.tower.proofs.Descent.{block_size}
 use Rattle.traces.specs.Views.{StandsIn}
@@ -76,7 +76,7 @@ put_levels-requires g t c κs within =
     let room = c.requires.work in
     let own_deep = All-same HasBelow own (block n (place / n) group) mine
     (All-block HasBelow n (place / n) group deep) in
-    let for_work : IsFor (length own) c.args.work.now = record {
+    let for_work : IsWorkFor (length own) c.args.work.now = record {
       outputs = omega (arith, room.outputs, less);
       values = omega (arith, room.values, less);
       votes = room.votes;

@@ -2,7 +2,7 @@ use Rattle.std.proofs.Common.{vec_capacity, subst, sym, arith}
 use Rattle.counting.specs.Unfinished.{LeastStays}
 use Rattle.counting.specs.Values.{least_above}
 use Rattle.majority_votes.specs.Votes.{Votes}
-use Rattle.majority_votes.specs.Counts.{IsKept}
+use Rattle.majority_votes.specs.Counts.{IsValidTally}
 use Rattle.majority_votes.proofs.KeptCounts.{least_known, no_least_known}
 use Rattle.majority_votes.proofs.tally.Tally.is_least_fixed.Goals as goal
 
@@ -11,7 +11,7 @@ pub returns-then-count-f : goal.returns-then-count-f
 returns-then-count-f c =
     let t = c.self.inside in
     let kept = subst
-    (λ counts. IsKept t.capacity t.values.items counts t.infinities (vec_capacity t.values)
+    (λ counts. IsValidTally t.capacity t.values.items counts t.infinities (vec_capacity t.values)
     (vec_capacity t.counts))
     (sym c.deref-count-items.ensures.value) c.self.invariant in
     let stays = least_known _ _ _ _ _ _ kept c.args.f c.args.more c.loop-count.count-index
@@ -25,7 +25,7 @@ pub returns : goal.returns
 returns c =
     let t = c.self.inside in
     let kept = subst
-    (λ counts. IsKept t.capacity t.values.items counts t.infinities (vec_capacity t.values)
+    (λ counts. IsValidTally t.capacity t.values.items counts t.infinities (vec_capacity t.values)
     (vec_capacity t.counts))
     (sym c.deref-count-items.ensures.value) c.self.invariant in
     let stays = no_least_known _ _ _ _ _ _ kept c.args.f c.args.more (omega arith)

@@ -1,7 +1,7 @@
 use Rattle.std.proofs.Common.{Some, None, length, vec_capacity, subst, sym, ap, arith}
 use Rattle.counting.specs.Unfinished.{MajorityStays}
 use Rattle.majority_votes.specs.Votes.{Votes}
-use Rattle.majority_votes.specs.Counts.{IsKept, value_at}
+use Rattle.majority_votes.specs.Counts.{IsValidTally, value_at}
 use Rattle.majority_votes.proofs.KeptCounts.{majority_known, no_majority_known}
 use Rattle.majority_votes.proofs.tally.Tally.majority_with.Goals as goal
 
@@ -10,7 +10,7 @@ pub returns-then-half-count : goal.returns-then-half-count
 returns-then-half-count c =
     let t = c.self.inside in
     let kept = subst
-    (λ counts. IsKept t.capacity t.values.items counts t.infinities (vec_capacity t.values)
+    (λ counts. IsValidTally t.capacity t.values.items counts t.infinities (vec_capacity t.values)
     (vec_capacity t.counts))
     (sym c.deref-count-items.ensures.value) c.self.invariant in
     let stays = majority_known _ _ _ _ _ _ kept c.args.more c.loop-count.count-index (omega arith)
@@ -25,7 +25,7 @@ pub returns-then-most-more : goal.returns-then-most-more
 returns-then-most-more c =
     let t = c.self.inside in
     let kept = subst
-    (λ counts. IsKept t.capacity t.values.items counts t.infinities (vec_capacity t.values)
+    (λ counts. IsValidTally t.capacity t.values.items counts t.infinities (vec_capacity t.values)
     (vec_capacity t.counts))
     (sym c.deref-count-items.ensures.value) c.self.invariant in
     let long = ap (λ (v : Votes). length v.values) c.self.view_is in

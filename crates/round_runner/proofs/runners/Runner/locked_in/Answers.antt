@@ -8,7 +8,7 @@ use Rattle.adversary_script.specs.Eras.{first_of_era}
 use Rattle.construction.specs.Plans.{plan_bound}
 use Rattle.round_runner.specs.Laws.{IsUpTo}
 use Rattle.round_runner.specs.Locks.{IsFirstLocked}
-use Rattle.round_runner.specs.Runners.{Running, IsFor, configuration_of}
+use Rattle.round_runner.specs.Runners.{Running, IsPlayableOn, configuration_of}
 use Rattle.round_runner.proofs.LocksKnown.{known_at_end, first_at_end}
 use Rattle.round_runner.proofs.ScenesLock.{known_first, known_by_bound}
 use Rattle.round_runner.proofs.runners.Runner.locked_in.Goals as goal
@@ -44,7 +44,8 @@ returns-clause-by_bound g c = λ began plays reaches reached.
     c.self.invariant.within in
     let accepted = subst (λ (r : Running _). IsAccepted r.plan) c.self.view_is
     c.self.invariant.accepted in
-    let right = subst (λ (r : Running _). IsFor r.plan (g.O.Overlay.layer r.overlay) r.script)
+    let right = subst (λ (r : Running _). IsPlayableOn r.plan
+    (g.O.Overlay.layer r.overlay) r.script)
     c.self.view_is c.self.invariant.right in
     let sound = subst (λ (r : Running _). IsShape r.script.shape) c.self.view_is
     c.self.invariant.sound in

@@ -1,7 +1,7 @@
 use Rattle.std.proofs.Common.{◌≡◌, ℕ, ◌+◌, ◌<◌, List, Option, None, set, sym, ap, ◌∙◌, refl, subst}
 use Rattle.std.proofs.Common.{arith}
 use Rattle.std.proofs.lemmas.List.{get_or_default}
-use Rattle.construction.specs.Runs.{IsBorne}
+use Rattle.construction.specs.Runs.{IsToleratedBy}
 use Rattle.adversary_script.specs.Eras.{era_of, faulty_of_era}
 use Rattle.sync_types.specs.FaultSets.{FaultIds}
 use Rattle.state_codec.specs.Packs.{Pack}
@@ -65,7 +65,8 @@ invariant_of-round g c =
     let kept = c.self.invariant in
     record {
       nodes = kept.right.nodes;
-      borne = of_each_era (IsBorne c.self.inside.tower) script (era_of script c.self.inside.at)
+      borne = of_each_era (IsToleratedBy c.self.inside.tower) script
+          (era_of script c.self.inside.at)
           (era_within script c.self.inside.at) kept.right.borne;
       liars = c.era_faulty.ensures ∙ ap (λ (j : ℕ). let set : FaultIds =
           record { nodes = script.nodes; ids = faulty_of_era script j } in set) kept.here;

@@ -4,7 +4,7 @@ use Rattle.std.proofs.lemmas.List.Elements.{All-get_or}
 use Rattle.sync_types.specs.FaultSets.{FaultIds}
 use Rattle.sync_types.specs.States.{State}
 use Rattle.construction.specs.Plans.{plan_nodes, plan_depth}
-use Rattle.construction.specs.Runs.{IsBorne}
+use Rattle.construction.specs.Runs.{IsToleratedBy}
 use Rattle.construction.specs.Steps.{state_of}
 use Rattle.counter_core.specs.Meanings.{cut}
 use Rattle.plan_laws.specs.PlanMeaning.{IsInRange}
@@ -40,8 +40,8 @@ pub gather-requires-clause-ids : goal.gather-requires-clause-ids
 gather-requires-clause-ids g c =
     let kept = c.self.invariant in
     let script = c.self.inside.script in
-    let borne : IsBorne c.self.inside.tower (faulty_of_era script c.self.inside.era) =
-    All-get_or (IsBorne c.self.inside.tower) (faulty_sets script) c.self.inside.era []
+    let borne : IsToleratedBy c.self.inside.tower (faulty_of_era script c.self.inside.era) =
+    All-get_or (IsToleratedBy c.self.inside.tower) (faulty_sets script) c.self.inside.era []
     (omega (
       arith,
       kept.here,

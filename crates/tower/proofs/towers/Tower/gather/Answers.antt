@@ -8,7 +8,7 @@ use Rattle.plan_numbers.specs.Numbers.{levels_in}
 use Rattle.plan_laws.specs.PlanMeaning.{IsInRange}
 use Rattle.shared_board.specs.Sharing.{Shares}
 use Rattle.shared_board.specs.Boards.{Board, AreLiars}
-use Rattle.tower.specs.Placings.{Placing, key_of, cost_of, Fits}
+use Rattle.tower.specs.Placings.{Placing, key_of, cost_of, IsPlacedOn}
 use Rattle.tower.specs.Sharing.{IsShared, plan_of}
 use Rattle.tower.proofs.Stepped.{groups_fit, groups_low}
 use Rattle.tower.proofs.Taken.{cut_range, all_cost}
@@ -30,7 +30,7 @@ gather_groups-shared-inside-requires g c =
     ∙ i.depth in
     let low = groups_low levels board inside.groups.items size depth i.keys i.ready in
     let fit = groups_fit levels board inside.groups.items size depth i.keys i.ready in
-    subst (All (Fits board)) (sym c.deref_mut.ensures.value)
+    subst (All (IsPlacedOn board)) (sym c.deref_mut.ensures.value)
     (λ k none lt. record {
       ready = i.ready k none lt;
       height = low k none lt;

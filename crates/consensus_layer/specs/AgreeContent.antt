@@ -2,6 +2,6 @@
 use Rattle.std.specs.Prelude.{ℕ, List}
 
 -- how many values there are, and the input of each node
-pub record AgreeSaid : Type 0 where
+pub record AgreeContent : Type 0 where
   pub values : ℕ
   pub inputs : List ℕ
