@@ -4,16 +4,9 @@ use Rattle.std.proofs.Common.{length, refl, ap, ◌∙◌, add-one, arith, filte
 use Rattle.std.specs.List.{range_with_len, remove}
 use Rattle.std.proofs.lemmas.List.Elements.{filter-append}
 use Rattle.std.proofs.lemmas.List.{append-nil}
+use Rattle.texts.proofs.Ranges.{range_more}
 use Rattle.attack.specs.Draws.{below}
 use Rattle.attack.specs.FaultyIds.{is_among, others, left_over}
-
--- one id more
-more_ids : (a n b : ℕ) → a + n ≡ b → range_with_len a (suc n) ≡ range_with_len a n ++ b ∷ []
-more_ids a zero b e = let same : a ≡ b = omega (arith, e) in ap (λ c. c ∷ []) same
-more_ids a (suc n) b e = ap (λ rest. a ∷ rest) (more_ids (a + 1) n b (omega (arith, e)))
-
-pub range_more : (a n b : ℕ) → a + n ≡ b → range_with_len a (n + 1) ≡ range_with_len a n ++ b ∷ []
-range_more a n b e = ap (range_with_len a) (add-one n) ∙ more_ids a n b e
 
 -- one id more is kept if it is not among these
 others_step : (n : ℕ) (ids : List ℕ) → others (n + 1) ids

@@ -48,16 +48,6 @@ most_have n f values None long quorum enough =
     no_least f values (λ z. let apart = two_values values None (Some z) (λ e. absurd (cc)) in
     omega (arith, apart, long, quorum, enough))
 
-finite : (a : Option ℕ) → is_some a ≡ true → (z : ℕ) × (a ≡ Some z)
-finite (Some z) is = (z, refl)
-finite None is = absurd (true≢false (sym is))
-
--- a finite value that is marked is locked
-pub locked_by : (own : Reg) → own.d ≡ true → is_some own.a ≡ true → (z : ℕ) × (own ≡ locked_at z)
-locked_by own mark some =
-    let f = finite own.a some in
-    (f.0, ap (λ a. record { a = a; d = own.d }) f.1 ∙ ap (λ d. record { a = Some f.0; d = d }) mark)
-
 module _ (h : RegisterHeard) (faulty : List ℕ) (v : ℕ) (quorum : 3 * h.faults < length h.states)
   where
     abbrev value : State → Option ℕ

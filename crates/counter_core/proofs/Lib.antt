@@ -1,4 +1,5 @@
 pub mod ListsAndPlaces
+pub mod StateLists
 pub mod ClearedRegisters
 pub mod Layers
 pub mod Quorum

@@ -7,6 +7,7 @@ use Rattle.std.specs.List.{flat_map, range_with_len}
 use Rattle.std.proofs.lemmas.List.{take_more, take-append-drop}
 use Rattle.std.proofs.lemmas.List.Concat.{flat_map-append}
 use Rattle.texts.specs.Growth.{SinkState, gathering, Wrote, Cut, Puts}
+use Rattle.texts.proofs.Ranges.{range_more}
 use Rattle.texts.proofs.Growth.{wrote_none, wrote_then, cut_then, cut_more, puts_lent}
 use Rattle.edge_io.specs.Gathering.{held}
 use Rattle.edge_io.specs.Writing.{Proceeds, writer_told, Writes, IsFresh, Finishes}
@@ -73,14 +74,6 @@ writes_at f xs i d lt before one =
     ap (flat_map f) (take_more xs i d lt) ∙ flat_map-append f (take i xs) (get_or xs i d ∷ [])
     ∙ ap (λ l. flat_map f (take i xs) ++ l) (append-nil (f (get_or xs i d))) in
     writes_is (sym parts) (writes_then before one)
-
--- so many numbers from one on, and the next
-range_next : (a n j : ℕ) → a + n ≡ j → range_with_len a (suc n) ≡ range_with_len a n ++ j ∷ []
-range_next a zero j at = let same : a ≡ j = omega arith in ap (λ (k : ℕ). k ∷ []) same
-range_next a (suc n) j at = ap (λ (l : List ℕ). a ∷ l) (range_next (a + 1) n j (omega arith))
-
-range_more : (a n j : ℕ) → a + n ≡ j → range_with_len a (n + 1) ≡ range_with_len a n ++ j ∷ []
-range_more a n j at = ap (range_with_len a) (add-one n) ∙ range_next a n j at
 
 -- the texts of so many numbers from one on, and that of the next
 pub writes_next : {K : Type 0} {told : K → SinkState} (f : ℕ → List ℕ) (first i j : ℕ)

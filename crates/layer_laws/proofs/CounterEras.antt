@@ -22,7 +22,7 @@ use Rattle.layer_laws.specs.CounterPlayed.{Telling, TellsInRange, IsKeptFor, lie
 use Rattle.layer_laws.specs.CounterPlayed.{state_after, kept_after, next_scene, scene_after}
 use Rattle.layer_laws.specs.CounterPlayed.{era_from}
 use Rattle.layer_laws.proofs.CounterCuts.{new_front, layer_register}
-use Rattle.layer_laws.proofs.CounterSteps.{each_below, choice_is}
+use Rattle.counter_core.proofs.StateLists.{each_below, choice_is}
 
 -- a list that is made place by place, by place
 pub placed : (P : ℕ → State → Type 0) (f : ℕ → State) (n : ℕ) → ((v : ℕ) → v < n → P v (f v))

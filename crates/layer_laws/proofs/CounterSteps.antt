@@ -19,6 +19,7 @@ use Rattle.construction.specs.Runs.{is_in, heard_of, heard_by}
 use Rattle.plan_laws.proofs.Ranges.{state_of-cut}
 use Rattle.counter_core.specs.Meanings.{Meaning, cut}
 use Rattle.counter_core.specs.Overlays.{Layer}
+use Rattle.counter_core.proofs.StateLists.{choice_is}
 use Rattle.layer_laws.specs.Counters.{HasFront, CountsFrom}
 use Rattle.layer_laws.specs.Scenes.{Scene}
 use Rattle.layer_laws.specs.CounterLayers.{IsLayerState, IsLayerConfiguration, IsLayerTold}
@@ -26,17 +27,6 @@ use Rattle.layer_laws.specs.CounterLayers.{LayerRun}
 use Rattle.layer_laws.specs.CounterLayers.{NodeSteps, scene, without_layer}
 use Rattle.layer_laws.specs.CounterSlots.{AllAre}
 use Rattle.layer_laws.proofs.CounterCuts.{configuration_at, cut_at}
-
--- a list that is made place by place
-pub each_below : {X : Type 0} (P : X → Type 0) (f : ℕ → X) (n : ℕ) → ((i : ℕ) → i < n → P (f i))
-    → All P (map f (range_with_len 0 n))
-each_below P f n holds = λ k d lt.
-    let within : k < n = omega (arith, length-map-range_with_len f 0 n) in
-    subst P (sym (get_or-map-range_with_len f 0 n k k d within (omega arith))) (holds k within)
-
-pub choice_is : (P : State → Type 0) (b : Bool) (s t : State) → P s → P t → P (cond b s t)
-choice_is P true s t here there = here
-choice_is P false s t here there = there
 
 -- a remainder goes on with the number, past a modulus that is a multiple
 next_rest : (c period o x : ℕ) → c % period ≡ 0 → o % period ≡ x → x + 1 < period

@@ -10,7 +10,6 @@ use Rattle.layer_laws.specs.Scenes.{Scene}
 use Rattle.layer_laws.specs.LayerRuns.{LayerRun, scene, without_layer}
 use Rattle.layer_laws.proofs.PlanCounters.{front_of_plan, counts_of_counter}
 use Rattle.layer_laws.proofs.CounterSteps as counters
-pub use Rattle.layer_laws.proofs.CounterSteps.{each_below, choice_is}
 
 module _ {Kept : Type 0} (plan : Plan) (layer : Layer Kept) (faulty : List ℕ) (first : ℕ)
     (run : List (Scene Kept)) (is : LayerRun plan layer faulty first run)

@@ -21,7 +21,7 @@ use Rattle.layer_laws.proofs.CounterCuts.{cut_at}
 use Rattle.layer_laws.proofs.CounterSlots.{runs_without_layer_over}
 use Rattle.machine_runner.proofs.Eras.{era_long, place_is, neighbours, of_each_era, same_faulty}
 use Rattle.machine_runner.proofs.Firsts.{none_inside, none_hit, era_some}
-use Rattle.machine_runner.proofs.Places.{each}
+use Rattle.counter_core.proofs.StateLists.{each_below}
 use Rattle.layer_runner.specs.Counters.{machine_counter}
 use Rattle.layer_runner.specs.Laws.{IsPlayable, EraCountsFrom, ErasAreLayerRuns}
 use Rattle.layer_runner.specs.Laws.{ErasCount, played_scene, era_scenes}
@@ -71,7 +71,7 @@ module _ {Kept : Type 0} (machine : Machine) (script : Script) (layer : Layer Ke
   layer_run = record {
     some = let some = era_some script is.read.whole j among in
         omega (arith, some, era_long script at j);
-    configurations = each (λ s. IsLayerConfiguration counter (IsState machine) layer s.states)
+    configurations = each_below (λ s. IsLayerConfiguration counter (IsState machine) layer s.states)
         (λ i. at (first + i)) count
         (λ i lt. configuration_is machine script layer began is (first + i));
     rounds = neighbours script at j (IsNextScene counter (IsState machine) layer faulty)

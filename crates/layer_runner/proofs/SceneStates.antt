@@ -19,7 +19,8 @@ use Rattle.layer_laws.specs.CounterLayers.{IsLayerState, IsLayerConfiguration, I
 use Rattle.layer_laws.specs.CounterLayers.{IsLayerTable}
 use Rattle.layer_laws.specs.PlayedScenes.{begun_kept, state_behind}
 use Rattle.machine_runner.proofs.Hits.{put_has, hit_has}
-use Rattle.machine_runner.proofs.Places.{each, placed}
+use Rattle.counter_core.proofs.StateLists.{each_below}
+use Rattle.machine_runner.proofs.Places.{placed}
 use Rattle.layer_runner.specs.Counters.{machine_counter}
 use Rattle.layer_runner.specs.Laws.{IsPlayable, played_scene, played_states}
 use Rattle.layer_runner.proofs.LayerSteps.{new_in_range}
@@ -86,7 +87,7 @@ module _ {Kept : Type 0} (machine : Machine) (script : Script) (layer : Layer Ke
       → IsLayerTold counter (IsState machine) layer u (row u) = λ u ult. record {
         size = length-map-range_with_len (λ v. lie_of script t u v config) 0 script.nodes
             ∙ is.read.right.nodes;
-        states = each (IsLayerState counter (IsState machine) layer u)
+        states = each_below (IsLayerState counter (IsState machine) layer u)
             (λ v. lie_of script t u v config) script.nodes
             (λ v vlt. layer_state u ult (lie_of script t u v config)
             (lies_in_range script is.read.whole is.read.shape.sound t u v config (range_at t)

@@ -25,7 +25,8 @@ use Rattle.machine_runner.proofs.FirstPassing.{first_locked_below}
 use Rattle.machine_runner.proofs.Firsts.{in_era, none_inside, none_hit, era_some, end_within}
 use Rattle.machine_runner.proofs.Hits.{hit_has, put_has}
 use Rattle.machine_runner.proofs.Locked.{lock_test_is_exact}
-use Rattle.machine_runner.proofs.Places.{each, placed}
+use Rattle.counter_core.proofs.StateLists.{each_below}
+use Rattle.machine_runner.proofs.Places.{placed}
 use Rattle.machine_runner.proofs.ReadFor.{state_is, range_is, borne_in}
 
 module _ (machine : Machine) (s : Script) (sound : IsSound machine)
@@ -57,7 +58,7 @@ module _ (machine : Machine) (s : Script) (sound : IsSound machine)
       let row : ℕ → List State = λ u. map (λ v. lie_of s t u v config) (range_with_len 0 s.nodes) in
       let told : (u : ℕ) → u < s.nodes → IsTold machine u (row u) = λ u node. record {
         size = length-map-range_with_len (λ v. lie_of s t u v config) 0 s.nodes ∙ is.right.nodes;
-        states = each (IsState machine u) (λ v. lie_of s t u v config) s.nodes
+        states = each_below (IsState machine u) (λ v. lie_of s t u v config) s.nodes
             (λ v lt. state_is machine s is u node (lie_of s t u v config)
             (lies_in_range s is.whole is.shape.sound t u v config range node));
       } in
@@ -108,7 +109,7 @@ module _ (machine : Machine) (s : Script) (sound : IsSound machine)
     pub run_of_era : Run machine (faulty_of_era s j) (era_run machine s j)
     run_of_era = record {
       some = let some = era_some s is.whole j le in omega (arith, some, era_long s at j);
-      configurations = each (IsConfiguration machine)
+      configurations = each_below (IsConfiguration machine)
           (λ i. played_at machine s (first_of_era s j + i))
           (end_of_era s j - first_of_era s j) (λ i lt. played_is (first_of_era s j + i));
       rounds = neighbours s at j (λ t. IsNext machine (faulty_of_era s j)) []

@@ -7,13 +7,7 @@ use Rattle.std.proofs.lemmas.List.{get_or-set_same, get_or-set_other}
 use Rattle.std.proofs.lemmas.List.FromFn.{length-map-range_with_len, get_or-map-range_with_len}
 use Rattle.sync_types.specs.States.{State, zero_state}
 use Rattle.construction.specs.Steps.{state_of}
-
--- a place within a list needs no default
-pub within : (states : List State) (v : ℕ) (d e : State) → v < length states
-    → get_or states v d ≡ get_or states v e
-within [] v d e lt = absurd (omega arith)
-within (state ∷ states) zero d e lt = refl
-within (state ∷ states) (suc v) d e lt = within states v d e (omega arith)
+use Rattle.counter_core.proofs.StateLists.{within}
 
 -- a state that is read of a configuration
 pub read_at : (states : List State) (v : ℕ) (read : State) → v < length states
@@ -24,13 +18,6 @@ read_at states v read lt is = is ∙ within states v read (zero_state 0) lt
 pub all_places : (P : State → Type 0) (states : List State)
     → ((v : ℕ) → v < length states → P (state_of states v)) → All P states
 all_places P states holds = λ k d lt. subst P (within states k (zero_state 0) d lt) (holds k lt)
-
--- a list that is made place by place
-pub each : {X : Type 0} (P : X → Type 0) (f : ℕ → X) (n : ℕ) → ((i : ℕ) → i < n → P (f i))
-    → All P (map f (range_with_len 0 n))
-each P f n holds = λ k d lt.
-    let within : k < n = omega (arith, length-map-range_with_len f 0 n) in
-    subst P (sym (get_or-map-range_with_len f 0 n k k d within (omega arith))) (holds k within)
 
 -- and a property of each of its places
 pub placed : (P : ℕ → State → Type 0) (f : ℕ → State) (n : ℕ)

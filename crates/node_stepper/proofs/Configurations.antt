@@ -10,17 +10,11 @@ use Rattle.state_codec.specs.Ranges.{InRange}
 use Rattle.state_codec.specs.Reading.{read}
 use Rattle.state_codec.proofs.Ranged.{zero_in_range, read_is_in_range}
 use Rattle.counter_core.specs.declared.work.Work.{Work}
+use Rattle.counter_core.proofs.StateLists.{within}
 use Rattle.counter_core.specs.Working.{IsWorkFor, IsAsRoomy}
 use Rattle.machines.specs.Machines.{Machine, IsState, IsConfiguration}
 use Rattle.machines.specs.Laws.{IsSound}
 use Rattle.node_stepper.specs.Kept.{IsValidEngine}
-
--- a place within a list needs no default
-within : (states : List State) (v : ℕ) (d e : State) → v < length states
-    → get_or states v d ≡ get_or states v e
-within [] v d e lt = absurd (omega arith)
-within (state ∷ states) zero d e lt = refl
-within (state ∷ states) (suc v) d e lt = within states v d e (omega arith)
 
 -- a node is put into a state
 pub set_state : (m : Machine) (states : List State) → IsConfiguration m states → (v : ℕ) (s : State)

@@ -16,7 +16,8 @@ use Rattle.machines.specs.Machines.{Machine, IsState, IsConfiguration, IsTold, I
 use Rattle.machines.specs.Machines.{Run, IsToleratedBy, IsLocked}
 use Rattle.machines.specs.Laws.{IsSound, StaysLockedFrom}
 use Rattle.node_stepper.specs.Losses.{HearsOthers}
-use Rattle.node_stepper.proofs.Windows.{each, placed}
+use Rattle.counter_core.proofs.StateLists.{each_below}
+use Rattle.node_stepper.proofs.Windows.{placed}
 
 -- what is heard of a node, by whether it is the hearer and whether it is missed
 either : (same missed : Bool) (truth told x : State) → (same ≡ true → truth ≡ x)
@@ -61,7 +62,7 @@ module _ (m : Machine) (sound : IsSound m) (old : List State) (is : IsConfigurat
         placed (IsTold m) row n []
         (λ u ult. record {
           size = length-map-range_with_len (told u) 0 n;
-          states = each (IsState m u) (told u) n (λ w wlt. told_by u w ult (w == v));
+          states = each_below (IsState m u) (told u) n (λ w wlt. told_by u w ult (w == v));
         });
   }
 

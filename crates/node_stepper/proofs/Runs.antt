@@ -19,7 +19,8 @@ use Rattle.node_stepper.specs.NodeRuns.{Nodes, cell_given, IsCorrect, state_in, 
 use Rattle.node_stepper.specs.NodeRuns.{AreConnected}
 use Rattle.node_stepper.specs.RunLaws.{RunThrough, NodesRun}
 use Rattle.node_stepper.proofs.States.{read_is_state}
-use Rattle.node_stepper.proofs.Windows.{Reach, each, placed, config, run, state_is, step_is}
+use Rattle.counter_core.proofs.StateLists.{each_below}
+use Rattle.node_stepper.proofs.Windows.{Reach, placed, config, run, state_is, step_is}
 use Rattle.node_stepper.proofs.Windows.{configuration_is, long, configurations, follows}
 
 -- what is heard of a node: of itself, of a correct one, of a faulty one
@@ -60,7 +61,7 @@ module _ (m : Machine) (sound : IsSound m) (faulty : List ℕ) (nodes : Nodes)
         placed (IsTold m) (row i) n []
         (λ u lt. record {
           size = length-map-range_with_len (told i u) 0 n;
-          states = each (IsState m u) (told i u) n
+          states = each_below (IsState m u) (told i u) n
               (λ v vlt. read_is_state m sound u lt (cell_given nodes (begins v + i) v u));
         });
   }

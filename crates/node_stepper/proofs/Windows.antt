@@ -18,13 +18,7 @@ use Rattle.node_stepper.proofs.NodeTexts.{state_push}
 use Rattle.node_stepper.proofs.States.{read_is_state, behind_is_state}
 use Rattle.node_stepper.proofs.Follows.{Follows}
 
--- lists that are made place by place
-pub each : {X : Type 0} (P : X → Type 0) (f : ℕ → X) (n : ℕ) → ((i : ℕ) → i < n → P (f i))
-    → All P (map f (range_with_len 0 n))
-each P f n holds = λ k d lt.
-    let within : k < n = omega (arith, length-map-range_with_len f 0 n) in
-    subst P (sym (get_or-map-range_with_len f 0 n k k d within (omega arith))) (holds k within)
-
+-- a list that is made place by place
 pub placed : {X : Type 0} (P : ℕ → X → Type 0) (f : ℕ → X) (n : ℕ) (d : X)
     → ((i : ℕ) → i < n → P i (f i))
     → (i : ℕ) → i < n → P i (get_or (map f (range_with_len 0 n)) i d)

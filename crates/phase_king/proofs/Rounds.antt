@@ -13,6 +13,7 @@ use Rattle.counting.proofs.Least.{least_has, least_is}
 use Rattle.sync_types.specs.declared.states.Reg.{Reg}
 use Rattle.construction.specs.PhaseKing.{own_or_kings, incremented, instructed, locked_at}
 use Rattle.phase_king.specs.Hearing.{Hears, Obeys, EachObeys, AllObey, AllHave, AllLocked}
+use Rattle.phase_king.proofs.LockedRegisters.{finite}
 use Rattle.phase_king.proofs.Heard.{most_hold, two_lists, carried, correct_source}
 
 -- ---- values and marks
@@ -33,10 +34,6 @@ unmarked : (a : Option ℕ) (d : Bool) (king : Option ℕ) → (is_some a && d) 
 unmarked None d king h = refl
 unmarked (Some a) false king h = refl
 unmarked (Some a) true king h = absurd (true≢false h)
-
-finite : (a : Option ℕ) → is_some a ≡ true → (y : ℕ) × (a ≡ Some y)
-finite None h = absurd (false≢true h)
-finite (Some y) h = (y, refl)
 
 -- if own and king's are one value, keeping and taking are the same
 either_way : (a : Option ℕ) (d : Bool) (king : Option ℕ) (y : ℕ) → a ≡ Some y → unwrap_or king 0 ≡ y

@@ -18,23 +18,13 @@ use Rattle.plan_numbers.specs.Premises.{IsAccepted}
 use Rattle.counter_core.specs.Meanings.{cut}
 use Rattle.counter_core.specs.Runs.{Run, Steps}
 use Rattle.counter_core.specs.RunsByPlace.{RunByPlace}
+use Rattle.counter_core.proofs.StateLists.{each_below, choice_is}
 use Rattle.plan_laws.specs.PlanMeaning.{plan_meaning, IsInRange}
 use Rattle.plan_laws.specs.Nested.{meaning_of, NestedRange}
 use Rattle.plan_laws.proofs.Explained.{explains}
 use Rattle.plan_laws.proofs.NestedSettles.{nested_range}
 use Rattle.plan_laws.proofs.PlanCounter.{positive}
 use Rattle.plan_laws.proofs.Ranges.{range_of_state}
-
--- a list that is made place by place
-each_below : {X : Type 0} (P : X → Type 0) (f : ℕ → X) (n : ℕ) → ((i : ℕ) → i < n → P (f i))
-    → All P (map f (range_with_len 0 n))
-each_below P f n holds = λ k d lt.
-    let within : k < n = omega (arith, length-map-range_with_len f 0 n) in
-    subst P (sym (get_or-map-range_with_len f 0 n k k d within (omega arith))) (holds k within)
-
-choice_is : (P : State → Type 0) (b : Bool) (s t : State) → P s → P t → P (cond b s t)
-choice_is P true s t here there = here
-choice_is P false s t here there = there
 
 module _ (plan : Plan) (accepted : IsAccepted plan) where
   -- a state of a node of the plan is in range

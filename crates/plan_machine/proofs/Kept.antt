@@ -8,6 +8,7 @@ use Rattle.construction.specs.Steps.{state_of}
 use Rattle.construction.specs.Runs.{IsState}
 use Rattle.plan_laws.specs.PlanMeaning.{IsInRange}
 use Rattle.plan_laws.proofs.PlanCounter.{positive}
+use Rattle.counter_core.proofs.StateLists.{within}
 use Rattle.plan_laws.proofs.Ranges.{range_of_state}
 use Rattle.state_codec.specs.Shapes.{Shape, shape_of, fields_at, moduli_of, shape_nodes}
 use Rattle.state_codec.specs.Ranges.{InRange}
@@ -16,13 +17,6 @@ use Rattle.state_codec.proofs.PlanStates.{state_of_node}
 use Rattle.machines.specs.Machines.{IsConfiguration}
 use Rattle.plan_machine.specs.PlanMachines.{machine_of_plan, lock_of}
 use Rattle.plan_machine.specs.Kept.{IsValidPlanMachine}
-
--- a place within a list needs no default
-within : (states : List State) (v : ℕ) (d e : State) → v < length states
-    → get_or states v d ≡ get_or states v e
-within [] v d e lt = absurd (omega arith)
-within (state ∷ states) zero d e lt = refl
-within (state ∷ states) (suc v) d e lt = within states v d e (omega arith)
 
 -- the register of the top level is the last of all
 pub lock_is : (levels : List Level) (last : Option ℕ)

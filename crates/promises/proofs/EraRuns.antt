@@ -15,7 +15,7 @@ use Rattle.layer_laws.specs.Scenes.{Scene}
 use Rattle.layer_laws.specs.LayerRuns.{IsLayerConfiguration, IsNextScene, LayerRound, LayerRun}
 use Rattle.layer_laws.specs.LayerRuns.{IsLayerTable, scene}
 use Rattle.layer_laws.specs.Played.{IsKeptFor}
-use Rattle.layer_laws.proofs.NodesSteps.{each_below}
+use Rattle.counter_core.proofs.StateLists.{each_below}
 use Rattle.layer_laws.proofs.PlanCounters.{borne_by_counter, plans_settle}
 use Rattle.layer_lines.specs.PlayedEras.{PlaysEras}
 use Rattle.layer_laws.proofs.SceneSteps.{steps_as}

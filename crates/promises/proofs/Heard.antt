@@ -11,7 +11,7 @@ use Rattle.adversary_script.specs.Scripts.{Script, IsScript}
 use Rattle.adversary_script.specs.Eras.{faulty_at}
 use Rattle.adversary_script.specs.Lies.{AreStates, lie_of}
 use Rattle.adversary_script.proofs.LiesInRange.{lies_in_range}
-use Rattle.layer_laws.proofs.NodesSteps.{choice_is}
+use Rattle.counter_core.proofs.StateLists.{choice_is}
 use Rattle.round_runner.specs.Played.{lies_at, heard_at}
 use Rattle.layer_lines.proofs.PlayedScripts.{told_is}
 

@@ -23,7 +23,7 @@ use Rattle.adversary_script.specs.Lies.{AreStates, start_of, lie_of}
 use Rattle.adversary_script.proofs.LiesInRange.{starts_in_range, depth_of_node}
 use Rattle.layer_laws.specs.LayerRuns.{IsLayerState, IsLayerConfiguration, IsLayerTold}
 use Rattle.layer_laws.specs.LayerRuns.{IsLayerTable}
-use Rattle.layer_laws.proofs.NodesSteps.{each_below}
+use Rattle.counter_core.proofs.StateLists.{each_below}
 use Rattle.round_runner.specs.Fits.{ShapeFits}
 use Rattle.round_runner.specs.Played.{lies_at, heard_at}
 use Rattle.layer_laws.specs.PlayedScenes.{begun_kept, layer_step, new_state, state_behind, scene_at}

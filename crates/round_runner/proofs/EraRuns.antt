@@ -30,7 +30,8 @@ use Rattle.machine_runner.proofs.Eras.{from_played, counts_played}
 use Rattle.machine_runner.proofs.FirstPassing.{first_locked_below}
 use Rattle.machine_runner.proofs.Firsts.{in_era, none_inside, none_hit, era_some, end_within}
 use Rattle.machine_runner.proofs.Hits.{hit_has, put_has}
-use Rattle.machine_runner.proofs.Places.{each, placed}
+use Rattle.counter_core.proofs.StateLists.{each_below}
+use Rattle.machine_runner.proofs.Places.{placed}
 
 module _ (plan : Plan) (s : Script) (is : IsReadFor plan s) where
   pub sound : IsShape s.shape
@@ -74,7 +75,7 @@ module _ (plan : Plan) (s : Script) (is : IsReadFor plan s) where
       let row : ℕ → List State = λ u. map (λ v. lie_of s t u v config) (range_with_len 0 s.nodes) in
       let told : (u : ℕ) → u < s.nodes → IsTold plan u (row u) = λ u node. record {
         size = length-map-range_with_len (λ v. lie_of s t u v config) 0 s.nodes ∙ is.right.nodes;
-        states = each (IsState plan u) (λ v. lie_of s t u v config) s.nodes
+        states = each_below (IsState plan u) (λ v. lie_of s t u v config) s.nodes
             (λ v lt. state_is u node (lie_of s t u v config)
             (lies_in_range s is.whole sound t u v config range node));
       } in
@@ -124,7 +125,7 @@ module _ (plan : Plan) (s : Script) (is : IsReadFor plan s) where
     pub run_of_era : Run plan (faulty_of_era s j) (era_run plan s j)
     run_of_era = record {
       some = let some = era_some s is.whole j le in omega (arith, some, era_long s at j);
-      configurations = each (IsConfiguration plan) (λ i. played_at plan s (first_of_era s j + i))
+      configurations = each_below (IsConfiguration plan) (λ i. played_at plan s (first_of_era s j + i))
           (end_of_era s j - first_of_era s j) (λ i lt. played_is (first_of_era s j + i));
       rounds = neighbours s at j (λ t. IsNext plan (faulty_of_era s j)) []
           (λ t low high. record { lies = lies_at s t (at t); round = round_in t low high });

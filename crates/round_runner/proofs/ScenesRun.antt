@@ -33,7 +33,8 @@ use Rattle.layer_laws.specs.PlayedScenes.{begun_kept, layer_step, new_state, sta
 use Rattle.round_runner.proofs.Fitting.{front_is, fitted_is}
 use Rattle.machine_runner.proofs.Firsts.{in_era, none_inside, none_hit}
 use Rattle.machine_runner.proofs.Hits.{put_has, hit_has}
-use Rattle.machine_runner.proofs.Places.{each, placed}
+use Rattle.counter_core.proofs.StateLists.{each_below}
+use Rattle.machine_runner.proofs.Places.{placed}
 
 -- a choice of two states, cut
 cut_choice : (d : ℕ) (b : Bool) (s t : State) → cond b (cut d s) (cut d t) ≡ cut d (cond b s t)
@@ -181,7 +182,7 @@ module _ {Kept : Type 0} (plan : Plan) (script : Script) (layer : Layer Kept)
         let row : ℕ → List State = λ u. map (lie u) (range_with_len 0 script.nodes) in
         let told : (u : ℕ) → u < script.nodes → IsTold plan u (row u) = λ u node. record {
           size = length-map-range_with_len (lie u) 0 script.nodes ∙ right.nodes;
-          states = each (IsState plan u) (lie u) script.nodes (λ v lt. lie_front t u v node);
+          states = each_below (IsState plan u) (lie u) script.nodes (λ v lt. lie_front t u v node);
         } in
         record {
           size = length-map-range_with_len row 0 script.nodes ∙ right.nodes;
@@ -242,7 +243,7 @@ module _ {Kept : Type 0} (plan : Plan) (script : Script) (layer : Layer Kept)
           let long = cut_length (first_of_era script j) count in
           record {
             some = omega (arith, long, some);
-            configurations = each (IsConfiguration plan)
+            configurations = each_below (IsConfiguration plan)
                 (λ i. cut_at (first_of_era script j + i)) count
                 (λ i lt. cut_is (first_of_era script j + i));
             rounds = λ i lt.

@@ -17,7 +17,8 @@ use Rattle.shared_board.proofs.Ids.{place_of_id}
 use Rattle.round_runner.specs.Locks.{correct_nodes}
 use Rattle.machine_runner.proofs.Heard.{is_among}
 use Rattle.round_runner.proofs.Own.{same_place}
-use Rattle.machine_runner.proofs.Places.{within, all_places}
+use Rattle.counter_core.proofs.StateLists.{within}
+use Rattle.machine_runner.proofs.Places.{all_places}
 use Rattle.run_checker.specs.Grammar.{pairs_of}
 use Rattle.run_checker.specs.Rounds.{told_for, AreStates}
 use Rattle.run_checker.specs.Hearing.{heard_from, Lays, LaysHeard}

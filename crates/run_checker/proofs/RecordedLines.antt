@@ -22,7 +22,7 @@ use Rattle.plan_numbers.proofs.Accepted.{meets, accepted_sized}
 use Rattle.std.specs.Int.{div_ceil}
 use Rattle.state_codec.specs.Shapes.{bits_in, bytes_in}
 use Rattle.state_codec.specs.Texts.{is_state_text, is_lower_digit}
-use Rattle.machine_runner.proofs.Places.{each}
+use Rattle.counter_core.proofs.StateLists.{each_below}
 use Rattle.run_checker.proofs.LiveLines.{few_bits}
 use Rattle.run_checker.specs.NodeFields.{fields_of}
 use Rattle.run_checker.specs.Items.{IsShort, HasLine, row_word, run_item, base_item}
@@ -295,6 +295,6 @@ module _ (plan : Plan) (accepted : IsAccepted plan) where
       let size = length-map (range_with_len 0 (plan_nodes plan)) word in
       let count = length-range_with_len 0 (plan_nodes plan) in
       row_line t (shown_row plan x) le (omega (arith, size, count, nodes))
-      (each (λ o. IfSome o IsSmall) word (plan_nodes plan)
+      (each_below (λ o. IfSome o IsSmall) word (plan_nodes plan)
       (λ v lt. shown_word (is_in x.faulty v) _
       (shown_small v (state_of x.config v) (is.states v lt))))

@@ -24,7 +24,8 @@ use Rattle.state_codec.proofs.Plans.{shape_of_accepted, depth_of_shape}
 use Rattle.state_codec.proofs.PlanStates.{state_of_node}
 use Rattle.state_codec.proofs.Lows.{fields_limited, depth_at}
 use Rattle.state_codec.proofs.Ranged.{zero_in_range, read_is_in_range}
-use Rattle.machine_runner.proofs.Places.{each, placed}
+use Rattle.counter_core.proofs.StateLists.{each_below}
+use Rattle.machine_runner.proofs.Places.{placed}
 use Rattle.run_checker.specs.Certificates.{Put, Lie, Era, Turn}
 use Rattle.run_checker.specs.Grammar.{faulty_behind}
 use Rattle.run_checker.specs.Stated.{Snapshot, Message, told_by, told_of, lies_table, unless_faulty}
@@ -141,7 +142,7 @@ module _ (plan : Plan) (accepted : IsAccepted plan) where
             (sym (get_or-map-range_with_len row 0 (plan_nodes plan) u u [] lt (omega arith)))
             (record {
               size = length-map-range_with_len (λ v. told_of plan told u v) 0 (plan_nodes plan);
-              states = each (IsState plan u) (λ v. told_of plan told u v) (plan_nodes plan) (λ v l.
+              states = each_below (IsState plan u) (λ v. told_of plan told u v) (plan_nodes plan) (λ v l.
                   let test : Message → Bool = λ t. eqb t.sender u && eqb t.receiver v in
                   or_has (IsState plan u) (λ t. IsOwn t × (test t ≡ true)) (find test told)
                   (zero_state (plan_depth plan))

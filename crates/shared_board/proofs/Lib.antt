@@ -12,7 +12,6 @@ pub mod Groups
 pub mod Beats
 pub mod Common
 pub mod Obeys
-pub mod Locked
 pub mod Registers
 pub mod Shut
 pub mod GroupStretches

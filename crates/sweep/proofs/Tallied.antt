@@ -8,6 +8,7 @@ use Rattle.std.proofs.lemmas.List.{map-id, length-set, length-replicate, get_or-
 use Rattle.std.proofs.lemmas.List.{get_or-set_same, get_or-set_other}
 use Rattle.std.proofs.lemmas.List.FromFn.{fill_by_all, map-range_with_len_more}
 use Rattle.std.proofs.lemmas.List.FromFn.{length-map-range_with_len, get_or-map-range_with_len}
+use Rattle.texts.proofs.Ranges.{range_more}
 use Rattle.adversary_script.specs.Scripts.{Script, IsScript}
 use Rattle.adversary_script.specs.Eras.{first_of_era, end_of_era}
 use Rattle.machine_runner.proofs.Firsts.{era_some}
@@ -15,12 +16,6 @@ use Rattle.sweep.specs.Keys.{keyed}
 use Rattle.sweep.specs.Sweeps.{Locks, lock_with}
 use Rattle.sweep.specs.Tallies.{EraRuns, AreRuns, AreOfEra, AreTallied, HasRoom, IsWithin, nothing}
 use Rattle.sweep.specs.Tallies.{no_runs}
-
--- numbers one more
-pub range_more : (a n j : ℕ) → a + n ≡ j → range_with_len a (n + 1) ≡ range_with_len a n ++ j ∷ []
-range_more a n j is = sym (map-id (range_with_len a (n + 1)))
-    ∙ map-range_with_len_more (λ (x : ℕ). x) a n j is
-    ∙ ap (λ (xs : List ℕ). xs ++ j ∷ []) (map-id (range_with_len a n))
 
 -- the runs of era j before the first one
 abbrev pub begun_runs : Script → (j : ℕ) → EraRuns

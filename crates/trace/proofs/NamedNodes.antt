@@ -4,15 +4,8 @@ use Rattle.std.proofs.Common.{All, filter, refl, sym, ap, ◌∙◌, add-one, ar
 use Rattle.std.specs.List.{range_with_len}
 use Rattle.std.proofs.lemmas.List.{append-nil}
 use Rattle.std.proofs.lemmas.List.Elements.{All-cons, All-nil, All-filter, filter-append}
+use Rattle.texts.proofs.Ranges.{range_more}
 use Rattle.trace.specs.Names.{is_wanted, named_nodes}
-
--- one id more
-more_ids : (a n b : ℕ) → a + n ≡ b → range_with_len a (suc n) ≡ range_with_len a n ++ b ∷ []
-more_ids a zero b e = let same : a ≡ b = omega (arith, e) in ap (λ c. c ∷ []) same
-more_ids a (suc n) b e = ap (λ rest. a ∷ rest) (more_ids (a + 1) n b (omega (arith, e)))
-
-range_more : (a n b : ℕ) → a + n ≡ b → range_with_len a (n + 1) ≡ range_with_len a n ++ b ∷ []
-range_more a n b e = ap (range_with_len a) (add-one n) ∙ more_ids a n b e
 
 ids_below : (a n most : ℕ) → a + n ≤ most → All (λ v. v < most) (range_with_len a n)
 ids_below a zero most le = All-nil (λ v. v < most)

@@ -4,7 +4,6 @@ pub mod GroupDescent
 pub mod PulseHearing
 pub mod PulseTraced
 pub mod GroupRegisters
-pub mod Reading
 pub mod WordsSoFar
 pub mod Hearing
 pub mod LevelDescent

@@ -1,5 +1,5 @@
 use Rattle.std.proofs.Common.{inl, sym, ◌∙◌}
-use Rattle.consensus_layer.proofs.TrueCounts.{locked_by}
+use Rattle.phase_king.proofs.LockedRegisters.{locked_by}
 use Rattle.consensus_layer.proofs.heeding.takes_other.Goals as goal
 
 -- the register is locked

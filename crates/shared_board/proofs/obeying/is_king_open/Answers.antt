@@ -1,5 +1,5 @@
 use Rattle.std.proofs.Common.{inl, ◌∙◌, sym}
-use Rattle.shared_board.proofs.Locked.{locked_by}
+use Rattle.phase_king.proofs.LockedRegisters.{locked_by}
 use Rattle.shared_board.proofs.obeying.is_king_open.Goals as goal
 
 -- the register is locked

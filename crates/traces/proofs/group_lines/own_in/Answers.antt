@@ -1,7 +1,7 @@
 use Rattle.std.proofs.Common.{ap, ◌∙◌}
 use Rattle.sync_types.specs.States.{zero_state}
 use Rattle.pulse_plan.specs.PulseMachineHearing.{level_state_in}
-use Rattle.traces.proofs.Reading.{within}
+use Rattle.counter_core.proofs.StateLists.{within}
 use Rattle.traces.proofs.group_lines.own_in.Goals as goal
 
 pub returns : goal.returns

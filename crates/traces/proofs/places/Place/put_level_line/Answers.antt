@@ -9,7 +9,7 @@ use Rattle.plan_numbers.specs.Sizes.{block_nodes}
 use Rattle.boost_step.proofs.Numbers.{related}
 use Rattle.traces.specs.LevelTexts.{level_front, heard_if}
 use Rattle.traces.specs.Places.{Placed}
-use Rattle.traces.proofs.Reading.{within}
+use Rattle.counter_core.proofs.StateLists.{within}
 use Rattle.traces.proofs.places.Place.put_level_line.Goals as goal
 
 pub returns-clause-line : goal.returns-clause-line

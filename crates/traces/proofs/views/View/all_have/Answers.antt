@@ -7,7 +7,7 @@ use Rattle.construction.specs.Steps.{state_of}
 use Rattle.machine_runner.specs.Locks.{is_locked_at}
 use Rattle.traces.specs.Words.{all_have}
 use Rattle.traces.proofs.GroupRegisters.{one_fails, one_passes}
-use Rattle.traces.proofs.Reading.{within}
+use Rattle.counter_core.proofs.StateLists.{within}
 use Rattle.traces.proofs.views.View.all_have.Goals as goal
 use Rattle.traces.proofs.views.View.all_have.Goals.{
   else-not-contains-via-then-not-contains+else-not-is_locked_at,

@@ -1,6 +1,6 @@
 use Rattle.std.proofs.Common.{ap, ◌∙◌}
 use Rattle.sync_types.specs.States.{register_at, zero_state}
-use Rattle.traces.proofs.Reading.{within}
+use Rattle.counter_core.proofs.StateLists.{within}
 use Rattle.traces.proofs.views.View.own_register.Goals as goal
 
 pub returns : goal.returns

@@ -4,10 +4,11 @@ use Rattle.std.proofs.lemmas.Bool.{false≢true}
 use Rattle.sync_types.specs.declared.states.Reg.{Reg}
 use Rattle.construction.specs.PhaseKing.{locked_at}
 
-finite : (o : Option ℕ) → is_some o ≡ true → (value : ℕ) × (o ≡ Some value)
+pub finite : (o : Option ℕ) → is_some o ≡ true → (value : ℕ) × (o ≡ Some value)
 finite None h = absurd (false≢true h)
 finite (Some value) h = (value, refl)
 
+-- it is locked at its value
 pub locked_by : (own : Reg) → own.d ≡ true → is_some own.a ≡ true → (value : ℕ)
     × (own ≡ locked_at value)
 locked_by own mark some =
