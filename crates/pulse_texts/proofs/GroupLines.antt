@@ -66,13 +66,3 @@ pub lines_of_halves : (group : PulseGroup) → 0 < group.faults
     → group_lines group
     ≡ group_line group ++ (group_lines (left_of group) ++ group_lines (right_of group))
 lines_of_halves group some = lines_by group.faults group refl some
-
--- the line of the group is the first
-lines_start_in : (d : ℕ) (group : PulseGroup)
-    → (rest : List ℕ) × (lines_within d group ≡ group_line group ++ rest)
-lines_start_in zero group = ([], sym (append-nil (group_line group)))
-lines_start_in (suc d) group = (inner_lines (group.faults == 0) d group, refl)
-
-pub lines_start : (group : PulseGroup)
-    → (rest : List ℕ) × (group_lines group ≡ group_line group ++ rest)
-lines_start group = lines_start_in group.faults group

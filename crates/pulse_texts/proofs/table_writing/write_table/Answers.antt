@@ -1,10 +1,6 @@
 use Rattle.std.proofs.Common.{rules}
-use Rattle.texts.proofs.Growth.{puts_lent}
+use Rattle.edge_io.proofs.Writing.{writes_all}
 use Rattle.pulse_texts.proofs.table_writing.write_table.Goals as goal
 
 pub returns : goal.returns
-returns g c =
-    puts_lent g.K.Sink.told _ _ _ _ _ _ _ _ (search rules)
-    (c.finish_with.ensures.puts _ _ (rw c.gathering-lines.ensures.told at
-    c.put_table-written.ensures))
-    c.finish_with.ensures.none_held
+returns g c = writes_all c.new-writer.ensures c.put_table.ensures c.finish.ensures (search rules)

@@ -8,4 +8,4 @@ returns g c =
       c.nodes.ensures,
       c.faults.ensures,
       c.modulus.ensures,
-    ) at c.put_pieces.ensures
+    ) at c.pieces.ensures
