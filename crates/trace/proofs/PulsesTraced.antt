@@ -12,9 +12,9 @@ use Rattle.pulse_plan.specs.Plans.{PulseNumbers}
 use Rattle.pulse_runs.specs.Readings.{IsReadAs}
 use Rattle.pulse_runs.specs.RunInputs as pulses
 use Rattle.pulse_runs.specs.declared.errors.RunRefusal.{RunRefusal}
-use Rattle.traces.specs.PulseTraceTexts.{trace_text}
+use Rattle.trace.specs.PulseTraceTexts.{trace_text}
 use Rattle.state_codec.specs.Shapes.{Shape}
-use Rattle.traces.specs.declared.wants.Want.{Want}
+use Rattle.trace.specs.declared.wants.Want.{Want}
 use Rattle.trace.specs.declared.reasons.TraceReason.{TraceReason}
 use Rattle.trace.specs.declared.reasons.TraceReason.TheVariants as reason
 use Rattle.trace.specs.Answers.{fails_at_first, levels_trace_or, pulses_trace, trace_by, trace_of}

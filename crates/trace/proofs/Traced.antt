@@ -12,11 +12,11 @@ use Rattle.counter_core.specs.declared.overlays.NoOverlay.{NoOverlay}
 use Rattle.round_runner.specs.Runners.{Running}
 use Rattle.outcomes.specs.Inputs.{scripted_of}
 use Rattle.answers.specs.ScriptedRuns.{IsScriptedRun}
-use Rattle.traces.specs.declared.desks.TraceBuffers.{TraceBuffers}
-use Rattle.traces.specs.declared.wants.Want.{Want}
-use Rattle.traces.specs.Desks.{IsFitFor, IsMade}
-use Rattle.traces.specs.TraceTexts.{trace_text}
-use Rattle.traces.specs.Wants.{IsToTrace}
+use Rattle.trace.specs.declared.desks.TraceBuffers.{TraceBuffers}
+use Rattle.trace.specs.declared.wants.Want.{Want}
+use Rattle.trace.specs.Desks.{IsFitFor, IsMade}
+use Rattle.trace.specs.TraceTexts.{trace_text}
+use Rattle.trace.specs.Wants.{IsToTrace}
 use Rattle.program_words.proofs.Answered.{answers_fails, fails_then}
 use Rattle.program_words.specs.Conduct.{Answers, FailsAs}
 use Rattle.program_words.specs.declared.errors.ProgramError.{ProgramError}

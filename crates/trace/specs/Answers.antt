@@ -10,9 +10,9 @@ use Rattle.program_words.specs.Conduct.{and_then}
 use Rattle.pulse_runs.specs.declared.errors.RunRefusal.{RunRefusal}
 use Rattle.pulse_runs.specs.declared.errors.RunRefusal.TheVariants as refusal
 use Rattle.pulse_runs.specs.RunInputs as pulses
-use Rattle.traces.specs.PulseTraceTexts as pulse_texts
-use Rattle.traces.specs.declared.wants.Want.{Want}
-use Rattle.traces.specs.TraceTexts.{trace_text}
+use Rattle.trace.specs.PulseTraceTexts as pulse_texts
+use Rattle.trace.specs.declared.wants.Want.{Want}
+use Rattle.trace.specs.TraceTexts.{trace_text}
 use Rattle.trace.specs.Names.{are_nodes, named_nodes}
 use Rattle.trace.specs.declared.reasons.TraceReason.{TraceReason}
 use Rattle.trace.specs.declared.reasons.TraceReason.TheVariants as reason

@@ -6,7 +6,7 @@ use Rattle.program_words.specs.Conduct as program
 use Rattle.program_words.specs.Conduct.{Answers, DoesWhole}
 use Rattle.program_words.specs.declared.asked.Asked.{Asked}
 use Rattle.program_words.specs.declared.errors.ProgramError.{ProgramError}
-use Rattle.traces.specs.declared.wants.Want.{Want}
+use Rattle.trace.specs.declared.wants.Want.{Want}
 use Rattle.trace.specs.Answers.{trace_of}
 use Rattle.trace.specs.HelpText.{help_text, version_text}
 use Rattle.trace.specs.Requests.{node_words, request_of}

@@ -4,7 +4,7 @@ use Rattle.std.specs.Prelude.{if◌then◌else◌}
 use Rattle.std.specs.List.{list_all}
 use Rattle.std.specs.Option.{is_some}
 use Rattle.texts.specs.Numbers.{number_of}
-use Rattle.traces.specs.declared.wants.Want.{Want}
+use Rattle.trace.specs.declared.wants.Want.{Want}
 
 -- whether each word is a number
 abbrev pub are_numbers : List (List ℕ) → Bool

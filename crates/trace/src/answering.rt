@@ -7,13 +7,13 @@ ghost use Rattle.trace.specs.Answers.{is_first, fails_at_first, trace_of};
 use crate::of_levels::write_levels_trace;
 use crate::of_pulses::write_pulses_trace;
 use crate::reasons::{TraceError, TraceReason};
+use crate::wants::Want;
 use edge_io::Sink;
 use machine_runner::Runner;
 use plan_reader::first_unskipped;
 use program_words::ProgramError;
 use pulse_runs::{PlayError, RunRefusal, read_scripted};
 use std::alloc::Global;
-use traces::Want;
 
 /// Whether the line is the first one that counts, or no line does.
 fn is_first(first: Option<u64>, line: u64) -> bool

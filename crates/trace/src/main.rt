@@ -4,6 +4,11 @@
 //! named, or of all, a line of its state and one of each level, or of each group with halves, in
 //! which it is.
 //!
+//! [`tracing::put_trace`] plays a script on a boosting plan, and [`pulse_tracing::put_pulse_trace`]
+//! one on a pulse plan, and both write the lines of the wanted configurations and nodes. The texts
+//! are defined in specs/: by the construction's own votes, lead, position and counts, and of a
+//! pulse plan by its level states, grades and fires.
+//!
 //! `--help` and `--version` write what they say. Other words are answered by one line of usage on
 //! standard error, and what is refused by one line there. The exit codes are those of `counterlab`
 //! and `pulselab`.
@@ -15,13 +20,28 @@
 mod answering;
 mod asking;
 mod calling;
+mod counted;
+mod desks;
+mod group_lines;
+mod headings;
+mod level_lines;
+mod level_parts;
+mod line_words;
 mod naming;
+mod node_lines;
 mod of_levels;
 mod of_pulses;
+mod places;
+mod pulse_desks;
+mod pulse_node_lines;
+mod pulse_tracing;
 mod reasons;
 mod requests;
 #[cfg(test)]
 mod tests;
+mod tracing;
+mod views;
+mod wants;
 
 use crate::asking::answer;
 use crate::reasons::TraceError;

@@ -6,8 +6,11 @@ ghost use Rattle.outcomes.specs.Inputs.{scripted_of};
 ghost use Rattle.program_words.specs.Conduct.{Answers, FailsAs};
 ghost use Rattle.trace.specs.Answers.{levels_read, levels_trace_or};
 
+use crate::desks::TraceBuffers;
 use crate::naming::named_nodes;
 use crate::reasons::{TraceError, TraceReason};
+use crate::tracing::put_trace;
+use crate::wants::Want;
 use answers::{Unanswered, read_scripted};
 use counter_core::NoOverlay;
 use edge_io::Sink;
@@ -15,7 +18,6 @@ use plan_numbers::Plan;
 use program_words::ProgramError;
 use round_runner::Runner;
 use std::alloc::Global;
-use traces::{TraceBuffers, Want, put_trace};
 
 /// The plan of an input, and the runner of its script on it.
 fn read_levels(alloc: Global, input: &[u8]) -> Result<(Plan, Runner<NoOverlay>), TraceError>

@@ -5,13 +5,15 @@ ghost use Rattle.program_words.specs.Conduct.{Answers};
 ghost use Rattle.trace.specs.Answers.{pulses_trace};
 
 use crate::naming::named_nodes;
+use crate::pulse_desks::PulseBuffers;
+use crate::pulse_tracing::put_pulse_trace;
 use crate::reasons::{TraceError, TraceReason};
+use crate::wants::Want;
 use edge_io::Sink;
 use machine_runner::Runner;
 use program_words::ProgramError;
 use pulse_plan::PulseMachine;
 use std::alloc::Global;
-use traces::{PulseBuffers, Want, put_pulse_trace};
 
 /// Writes the trace of the wanted configurations and of the nodes that the words name, or of all
 /// if there is no word. The runner is at configuration 0.

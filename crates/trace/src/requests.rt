@@ -3,8 +3,8 @@
 ghost use Rattle.std.specs.Prelude.{◌≡◌, map, string_bytes, IfSome};
 ghost use Rattle.trace.specs.Requests.{are_numbers, node_words, request_of, want_by, IsInOrder};
 
+use crate::wants::Want;
 use edge_io::number;
-use traces::Want;
 
 /// Whether each word is a number.
 fn are_numbers(words: &[String]) -> bool

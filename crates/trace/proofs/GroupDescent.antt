@@ -1,0 +1,94 @@
+-- The groups with halves in which a node is, from a group down.
+use Rattle.std.proofs.Common.{◌≡◌, ℕ, zero, suc, ◌+◌, ◌-◌, ◌<◌, ◌≤◌, Bool, true, false, List}
+use Rattle.std.proofs.Common.{[]}
+use Rattle.std.proofs.Common.{◌∷◌, ◌++◌, Option, Some, None, refl, sym, ap, ◌∙◌, arith}
+use Rattle.std.specs.Prelude.{nat_eq, nat_lt, if◌then◌else◌, IfSome}
+use Rattle.std.specs.List.{flat_map}
+use Rattle.std.proofs.lemmas.Bool.{eq-eqb, ne_eqb}
+use Rattle.pulse_plan.specs.Groups.{PulseGroup, half_in, left_of, right_of}
+use Rattle.trace.specs.Groups.{in_half, groups_within, groups_of}
+
+by_tests : (a b : Bool) (left right : PulseGroup) (most : ℕ) → left.faults ≤ most
+    → right.faults ≤ most
+    → IfSome (if a then Some left else if b then Some right else None) (λ h. h.faults ≤ most)
+by_tests true b left right most l r = l
+by_tests false true left right most l r = r
+by_tests false false left right most l r = tt
+
+-- a half tolerates fewer faults
+half_fewer : (group : PulseGroup) (v : ℕ)
+    → IfSome (half_in group v) (λ h. h.faults ≤ group.faults - 1)
+half_fewer group v =
+    by_tests (nat_lt v (right_of group).first)
+    (nat_lt v ((right_of group).first + (right_of group).nodes)) (left_of group) (right_of group)
+    (group.faults - 1) (omega arith) (omega arith)
+
+half_same : (one other : PulseGroup → List PulseGroup) (o : Option PulseGroup)
+    → IfSome o (λ h. one h ≡ other h) → in_half o one ≡ in_half o other
+half_same one other None same = refl
+half_same one other (Some half) same = same
+
+one_within : (most : ℕ) (o : Option PulseGroup) (P : PulseGroup → Type 0)
+    → IfSome o (λ h. h.faults ≤ most) → ((h : PulseGroup) → h.faults ≤ most → P h) → IfSome o P
+one_within most None P few all = tt
+one_within most (Some half) P few all = all half few
+
+none_within : (m : ℕ) (group : PulseGroup) (v : ℕ) → group.faults ≡ 0
+    → groups_within m group v ≡ []
+none_within zero group v e = refl
+none_within (suc m) group v e =
+    let none : nat_eq group.faults 0 ≡ true = eq-eqb group.faults 0 e in
+    ap (λ (b : Bool). if b then [] else group ∷ in_half (half_in group v)
+    (λ half. groups_within m half v)) none
+
+-- more than there are faults are not needed
+pub enough : (n m : ℕ) (group : PulseGroup) (v : ℕ) → group.faults ≤ n → group.faults ≤ m
+    → groups_within n group v ≡ groups_within m group v
+enough zero m group v a b = sym (none_within m group v (omega arith))
+enough (suc n) zero group v a b = none_within (suc n) group v (omega arith)
+enough (suc n) (suc m) group v a b =
+    ap (λ (rest : List PulseGroup). if nat_eq group.faults 0 then [] else group ∷ rest)
+    (half_same (λ half. groups_within n half v) (λ half. groups_within m half v) (half_in group v)
+    (one_within (group.faults - 1) (half_in group v)
+    (λ half. groups_within n half v ≡ groups_within m half v) (half_fewer group v)
+    (λ half few. enough n m half v (omega (arith, few, a)) (omega (arith, few, b)))))
+
+pub no_groups : (group : PulseGroup) (v : ℕ) → group.faults ≡ 0 → groups_of group v ≡ []
+no_groups group v e = none_within group.faults group v e
+
+some_within : (k : ℕ) (group : PulseGroup) (v : ℕ) → 0 < group.faults
+    → groups_within (suc k) group v
+    ≡ group ∷ in_half (half_in group v) (λ half. groups_within k half v)
+some_within k group v some =
+    let other : nat_eq group.faults 0 ≡ false = ne_eqb group.faults 0 (λ e. omega (arith, e)) in
+    ap (λ (b : Bool). if b then [] else group ∷ in_half (half_in group v)
+    (λ half. groups_within k half v)) other
+
+pub groups_are : (group : PulseGroup) (v : ℕ) → 0 < group.faults
+    → groups_of group v ≡ group ∷ in_half (half_in group v) (λ half. groups_of half v)
+groups_are group v some =
+    let k = group.faults - 1 in
+    enough group.faults (suc k) group v (omega arith) (omega arith)
+    ∙ (some_within k group v some
+    ∙ ap (λ (rest : List PulseGroup). group ∷ rest)
+    (half_same (λ half. groups_within k half v) (λ half. groups_of half v) (half_in group v)
+    (one_within k (half_in group v) (λ half. groups_within k half v ≡ groups_of half v)
+    (half_fewer group v)
+    (λ half few. enough k half.faults half v few (omega arith)))))
+
+-- ---- their lines
+
+module _ (line : PulseGroup → List ℕ) (group : PulseGroup) (v : ℕ) (some : 0 < group.faults) where
+  pub lines_in_half : (half : PulseGroup) → Some half ≡ half_in group v
+      → line group ++ flat_map line (groups_of half v) ≡ flat_map line (groups_of group v)
+  lines_in_half half is =
+      ap (λ (o : Option PulseGroup). line group ++ flat_map line
+      (in_half o (λ half. groups_of half v))) is
+      ∙ ap (flat_map line) (sym (groups_are group v some))
+
+  pub lines_of_spare : None ≡ half_in group v
+      → line group ++ [] ≡ flat_map line (groups_of group v)
+  lines_of_spare is =
+      ap (λ (o : Option PulseGroup). line group ++ flat_map line
+      (in_half o (λ half. groups_of half v))) is
+      ∙ ap (flat_map line) (sym (groups_are group v some))

@@ -1,0 +1,12 @@
+use Rattle.std.proofs.Common.{ap, ◌∙◌}
+use Rattle.sync_types.specs.States.{zero_state}
+use Rattle.pulse_plan.specs.PulseMachineHearing.{level_state_in}
+use Rattle.counter_core.proofs.StateLists.{within}
+use Rattle.trace.proofs.group_lines.own_in.Goals as goal
+
+pub returns : goal.returns
+returns c =
+    let view = c.args.view.now in
+    c.read.ensures
+    ∙ ap (level_state_in c.args.group.now)
+    (within view.config.now view.heading.node c.index-view-view.result (zero_state 0) view.node)

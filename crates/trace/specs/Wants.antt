@@ -1,0 +1,24 @@
+-- Which configurations are wanted, and a runner that comes to them.
+use Rattle.std.specs.Prelude.{◌≡◌, ℕ, ◌≤◌, []}
+use Rattle.counter_core.specs.declared.overlays.NoOverlay.{NoOverlay}
+use Rattle.counter_core.specs.NoLayers.{no_layer}
+use Rattle.adversary_script.specs.Scripts.{Script}
+use Rattle.round_runner.specs.Runners.{Running, IsPlaying}
+use Rattle.trace.specs.declared.wants.Want.{Want}
+
+-- the wanted configurations are played
+pub record IsWithin (script : Script) (want : Want) : Type 0 where
+  pub order : want.first ≤ want.last
+  pub last : want.last ≤ script.rounds
+
+-- the runner plays its script, and is at configuration 0
+pub record IsToTrace (r : Running NoOverlay) : Type 0 where
+  pub at : r.at ≡ 0
+  pub plays : IsPlaying (λ o. no_layer) (λ o. []) [] r
+
+-- the same runner at configuration t
+pub record IsAt (start : Running NoOverlay) (t : ℕ) (r : Running NoOverlay) : Type 0 where
+  pub plan : r.plan ≡ start.plan
+  pub script : r.script ≡ start.script
+  pub at : r.at ≡ t
+  pub plays : IsPlaying (λ o. no_layer) (λ o. []) [] r

@@ -1,0 +1,195 @@
+//! The lines of the groups in which a node is.
+
+ghost use Rattle.std.specs.Prelude.{◌≡◌, ◌+◌, ◌^◌, ◌<◌, ◌≤◌, length, All};
+ghost use Rattle.construction.specs.Steps.{state_of};
+ghost use Rattle.edge_io.specs.Writing.{Writes};
+ghost use Rattle.pulse_plan.specs.Groups.{sizes_of};
+ghost use Rattle.pulse_plan.specs.PulseMachineHearing.{level_state_in, level_states_in};
+ghost use Rattle.trace.specs.Around.{IsAround};
+ghost use Rattle.trace.specs.GroupTexts.{half_word, seen_word, turn_part, marks_part};
+ghost use Rattle.trace.specs.GroupTexts.{instruction_part, held_part, heard_if};
+ghost use Rattle.trace.specs.GroupTexts.{group_front, group_line};
+ghost use Rattle.trace.specs.Groups.{groups_of};
+ghost use Rattle.trace.specs.PulseNodeTexts.{group_lines};
+
+use crate::counted::{count_said, put_said};
+use crate::line_words::{mark_word, number_piece, turn_word};
+use crate::views::View;
+use counter_core::Heard;
+use edge_io::{Piece, Sink, Writer};
+use majority_votes::Tally;
+use pulse_plan::{Group, LevelState};
+
+/// The word of the half that began the instructions.
+fn half_word(left: bool) -> &'static str
+    ensures { result.now ≡ half_word left }
+{
+    if left { " left" } else { " right" }
+}
+
+/// The word of a pulse, by whether it was seen.
+fn seen_word(seen: bool) -> &'static str
+    ensures { result.now ≡ seen_word seen }
+{
+    if seen { " seen" } else { " unseen" }
+}
+
+/// Writes an instruction of a group, and whose phase it is of.
+fn put_turn<K: Sink>(writer: &mut Writer<'_, K>, group: &Group, instruction: u64)
+    requires { instruction ≤ 2 ^ 32 }
+    ensures { Writes K.told (turn_part group.now.first instruction) writer.old writer.new }
+{
+    writer.pieces(&[
+        Piece::Text(b" instruction "),
+        Piece::Number(instruction),
+        Piece::Text(turn_word(instruction % 3).as_bytes()),
+        Piece::Text(b" king "),
+        Piece::Number(u64::from(group.first()) + instruction / 3),
+    ]);
+}
+
+/// Writes which instruction comes in a group, and whose phase it is of; or that the node waits.
+fn put_instruction<K: Sink>(writer: &mut Writer<'_, K>, group: &Group, own: &LevelState)
+    ensures { Writes K.told
+        (instruction_part group.now.faults group.now.first own.now.instruction)
+        writer.old writer.new }
+{
+    group.facts();
+    if own.instruction >= group.instructions() {
+        writer.text(b" waits");
+    } else {
+        put_turn(writer, group, own.instruction);
+    }
+}
+
+/// Writes which half began the instructions, the age of the left pulse, and which pulses were seen.
+fn put_marks<K: Sink>(writer: &mut Writer<'_, K>, own: &LevelState)
+    ensures { Writes K.told (marks_part own.now) writer.old writer.new }
+{
+    writer.pieces(&[
+        Piece::Text(b" began"),
+        Piece::Text(half_word(own.begun_by_left).as_bytes()),
+        Piece::Text(b" age "),
+        Piece::Number(own.age),
+        Piece::Text(b" left"),
+        Piece::Text(seen_word(own.saw_left).as_bytes()),
+        Piece::Text(b" right"),
+        Piece::Text(seen_word(own.saw_right).as_bytes()),
+    ]);
+}
+
+/// Writes what a level state of a group holds after its register.
+fn put_held<K: Sink>(writer: &mut Writer<'_, K>, group: &Group, own: &LevelState)
+    ensures { Writes K.told (held_part group.now.faults group.now.first own.now)
+        writer.old writer.new }
+{
+    put_instruction(writer, group, own);
+    put_marks(writer, own);
+}
+
+/// Writes the beginning of a group's line, up to the node's own register there.
+fn put_front<K: Sink>(writer: &mut Writer<'_, K>, group: &Group, view: &View<'_>, own: &LevelState)
+    requires within { group.now.first + group.now.nodes ≤ length view.now.config.now }
+    requires deep { All (λ s. group.now.register < length s.registers) view.now.config.now }
+    ensures { Writes K.told (group_front view.now.heading view.now.faulty.now.ids
+        view.now.config.now group.now own.now.register) writer.old writer.new }
+{
+    group.facts();
+    let (first, nodes) = (group.first(), group.nodes());
+    let register = own.register;
+    let all = view.all_have(group.register(), first, nodes, register.a);
+    writer.pieces(&[
+        Piece::Text(b"at "),
+        Piece::Number(view.heading.at),
+        Piece::Text(b" node "),
+        Piece::Number(u64::from(view.heading.node)),
+        Piece::Text(view.heading.faulty_word().as_bytes()),
+        Piece::Text(b" group "),
+        Piece::Number(u64::from(first)),
+        Piece::Text(b" "),
+        Piece::Number(u64::from(first + nodes - 1)),
+        Piece::Text(b" value "),
+        number_piece(register.a),
+        Piece::Text(mark_word(register.d, all).as_bytes()),
+    ]);
+}
+
+/// Writes what a node with this level state hears of a group, if nodes hear one another.
+fn put_heard_if<K: Sink>(
+    writer: &mut Writer<'_, K>,
+    group: &Group,
+    hears: bool,
+    own: &LevelState,
+    heard: &Heard<'_>,
+    values: &mut Tally,
+)
+    requires halves { 0 < group.now.faults }
+    requires within { group.now.first + group.now.nodes ≤ length heard.now }
+    requires deep { All (λ s. group.now.register + 4 ≤ length s.registers) heard.now }
+    requires room { group.now.nodes ≤ values.old.capacity }
+    ensures part { Writes K.told (heard_if hears (sizes_of group.now) own.now
+        (level_states_in group.now heard.now)) writer.old writer.new }
+    ensures capacity { values.new.capacity ≡ values.old.capacity }
+{
+    if hears {
+        let said = count_said(group, own, heard, values);
+        put_said(writer, group, own, &said);
+    }
+}
+
+/// The level state that the node has in a group.
+fn own_in(group: &Group, view: &View<'_>) -> LevelState
+    requires { All (λ s. group.now.register + 4 ≤ length s.registers) view.now.config.now }
+    ensures { result
+        ≡ level_state_in group.now (state_of view.now.config.now view.now.heading.node) }
+{
+    LevelState::read(&view.config[view.heading.node as usize], group)
+}
+
+/// Writes the line of a group that has halves, by what its node hears of all nodes.
+fn put_group_line<K: Sink>(
+    writer: &mut Writer<'_, K>,
+    group: &Group,
+    view: &View<'_>,
+    heard: &Heard<'_>,
+    values: &mut Tally,
+)
+    requires halves { 0 < group.now.faults }
+    requires around { IsAround group.now view.now heard.now }
+    requires room { group.now.nodes ≤ values.old.capacity }
+    ensures line { Writes K.told (group_line view.now.heading view.now.faulty.now.ids
+        view.now.config.now view.now.hears heard.now group.now) writer.old writer.new }
+    ensures capacity { values.new.capacity ≡ values.old.capacity }
+{
+    let own = own_in(group, view);
+    put_front(writer, group, view, &own);
+    put_held(writer, group, &own);
+    put_heard_if(writer, group, view.hears, &own, heard, values);
+    writer.byte(b'\n');
+}
+
+/// Writes the lines of the groups with halves in which the node is, from a group down, by what it
+/// hears of all nodes.
+pub fn put_groups<K: Sink>(
+    writer: &mut Writer<'_, K>,
+    group: &Group,
+    view: &View<'_>,
+    heard: &Heard<'_>,
+    values: &mut Tally,
+)
+    requires around { IsAround group.now view.now heard.now }
+    requires room { group.now.nodes ≤ values.old.capacity }
+    ensures lines { Writes K.told (group_lines view.now.heading view.now.faulty.now.ids
+        view.now.config.now view.now.hears heard.now
+        (groups_of group.now view.now.heading.node)) writer.old writer.new }
+    ensures capacity { values.new.capacity ≡ values.old.capacity }
+{
+    group.facts();
+    if group.faults() == 0 {
+        return;
+    }
+    put_group_line(writer, group, view, heard, values);
+    if let Some(half) = group.half_of(view.heading.node) {
+        put_groups(writer, &half, view, heard, values);
+    }
+}

@@ -1,0 +1,48 @@
+ghost use Rattle.std.specs.Prelude.{◌≡◌, ◌≤◌, IfOk};
+ghost use Rattle.machine_runner.specs.Hearing.{HasRoom};
+ghost use Rattle.trace.specs.PulseDesks.{IsDeskFor};
+
+use machine_runner::Runner;
+use machines::Machine;
+use majority_votes::Tally;
+use pulse_plan::PulseMachine;
+use std::alloc::Global;
+use sync_types::{NoMemory, NodeState};
+
+/// What a trace needs besides its runner, made once.
+#[derive(Drop)]
+pub struct PulseBuffers {
+    /// The states of all nodes.
+    pub config: Vec<NodeState>,
+    /// What a node hears of all nodes.
+    pub heard: Vec<NodeState>,
+    /// The room for values that are counted.
+    pub values: Tally,
+}
+
+/// Room for a state of each node of a runner.
+fn room_for(alloc: Global, runner: &Runner<'_, PulseMachine>) -> Result<Vec<NodeState>, NoMemory>
+    ensures { IfOk result (λ states. HasRoom runner.now.script states.items) }
+{
+    runner.facts();
+    let depth = runner.machine().depth();
+    let states = NodeState::zeros(alloc, runner.nodes(), depth)?;
+    Ok(states)
+}
+
+impl PulseBuffers {
+    /// Room for traces of the run that a runner plays. It takes all the memory that a trace needs.
+    pub fn new(alloc: Global, runner: &Runner<'_, PulseMachine>) -> Result<PulseBuffers, NoMemory>
+        ensures { IfOk result (IsDeskFor runner.now.script) }
+    {
+        runner.facts();
+        let config = room_for(alloc, runner)?;
+        let heard = room_for(alloc, runner)?;
+        let values = Tally::new(alloc, runner.nodes() as usize).map_err(|_| NoMemory)?;
+        Ok(PulseBuffers {
+            config,
+            heard,
+            values,
+        })
+    }
+}

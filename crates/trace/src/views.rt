@@ -1,0 +1,61 @@
+ghost use Rattle.std.specs.Prelude.{◌≡◌, ◌+◌, ◌<◌, ◌≤◌, length, All};
+ghost use Rattle.sync_types.specs.States.{register_at};
+ghost use Rattle.construction.specs.Steps.{state_of};
+ghost use Rattle.machine_runner.specs.Locks.{is_locked_at};
+ghost use Rattle.trace.specs.Words.{all_have};
+
+use crate::headings::Heading;
+use sync_types::{FaultSet, NodeState, Reg};
+
+/// What lines of a node are written of.
+#[derive(Clone, Copy)]
+pub struct View<'a> {
+    /// Whose lines they are.
+    pub heading: Heading,
+    /// The nodes that are faulty.
+    pub faulty: &'a FaultSet,
+    /// The states of all nodes.
+    pub config: &'a [NodeState],
+    /// Whether a round follows, in which nodes hear one another.
+    pub hears: bool,
+    ghost node: { heading.node < length config.now },
+}
+
+/// Whether a register is marked and has this value.
+fn is_locked_at(value: u64, register: Reg) -> bool
+    ensures { result ≡ is_locked_at value register }
+{
+    register.a == Some(value) && register.d
+}
+
+impl View<'_> {
+    /// The node's own register with that index.
+    pub fn own_register(&self, register: usize) -> Reg
+        requires { All (λ s. register < length s.registers) self.now.config.now }
+        ensures { result
+            ≡ register_at register (state_of self.now.config.now self.now.heading.node) }
+    {
+        self.config[self.heading.node as usize].reg(register)
+    }
+
+    /// Whether each correct one of so many nodes, from `first` on, has this finite value in the
+    /// register with that index, marked.
+    pub fn all_have(&self, register: usize, first: u32, many: u32, value: Option<u64>) -> bool
+        requires within { first + many ≤ length self.now.config.now }
+        requires few { first + many ≤ 256 }
+        requires deep { All (λ s. register < length s.registers) self.now.config.now }
+        ensures { result ≡ all_have register first many self.now.faulty.now.ids
+            self.now.config.now value }
+    {
+        let Some(a) = value else {
+            return false;
+        };
+        for u in first..first + many {
+            let held = self.config[u as usize].reg(register);
+            if !self.faulty.contains(u) && !is_locked_at(a, held) {
+                return false;
+            }
+        }
+        true
+    }
+}

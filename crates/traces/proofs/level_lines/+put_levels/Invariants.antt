@@ -1,5 +1,0 @@
-use Rattle.std.proofs.Common.{length}
-use Rattle.traces.proofs.level_lines.+put_levels.Given as goal
-
-abbrev pub decreases-put_levels : goal.decreases-put_levels
-decreases-put_levels g l = length l.levels.now

@@ -1,5 +1,0 @@
-use Rattle.traces.specs.Wants.{IsAt}
-use Rattle.traces.proofs.tracing.play.Given as goal
-
-abbrev pub invariant-loop : goal.invariant-loop
-invariant-loop l = IsAt l.fn.runner l.counter l.runner
