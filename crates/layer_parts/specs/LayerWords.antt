@@ -5,8 +5,8 @@ use Rattle.counter_core.specs.Overlays.{Layer, LayerFits, KeepsRange}
 use Rattle.adversary_script.specs.Scripts.{Script}
 use Rattle.machine_runner.specs.FirstLocked.{LockTest}
 use Rattle.layer_laws.specs.Numbers.{Numbers, numbers_in}
-use Rattle.layer_lines.specs.Counting.{ErasCount}
-use Rattle.layer_lines.specs.PlayedTexts.{Wording, played_text}
+use Rattle.layer_runner.specs.Counting.{ErasCount}
+use Rattle.layer_runner.specs.PlayedTexts.{Wording, played_text}
 use Rattle.layer_parts.specs.declared.registers.Registers.{Registers}
 
 -- The layer above a counter of these numbers, what each node keeps at first, how lines are written

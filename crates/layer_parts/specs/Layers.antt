@@ -9,9 +9,9 @@ use Rattle.firing.specs.Firings.{fire_layer_over, unfired}
 use Rattle.replicated_log.specs.declared.entries.Entry.{Entry}
 use Rattle.replicated_log.specs.LogContent.{LogContent}
 use Rattle.replicated_log.specs.Logs.{log_layer_over}
-use Rattle.layer_lines.specs.DecisionTexts.{decision_text, decision_wording}
-use Rattle.layer_lines.specs.FireTexts.{fire_text, fire_wording}
-use Rattle.layer_lines.specs.EntryTexts.{log_text, entry_wording}
+use Rattle.layer_runner.specs.DecisionTexts.{decision_text, decision_wording}
+use Rattle.layer_runner.specs.FireTexts.{fire_text, fire_wording}
+use Rattle.layer_runner.specs.EntryTexts.{log_text, entry_wording}
 use Rattle.layer_parts.specs.declared.registers.Registers.{Registers}
 use Rattle.layer_parts.specs.LayerWords.{LayerWords}
 

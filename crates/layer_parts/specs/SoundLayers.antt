@@ -10,9 +10,9 @@ use Rattle.firing.proofs.FitRequests.{requests_fit_over}
 use Rattle.replicated_log.specs.LogPart as log
 use Rattle.replicated_log.specs.LogLaws.{log_keeps}
 use Rattle.replicated_log.proofs.FitLogs.{log_fits_over}
-use Rattle.layer_lines.proofs.DecisionLaws.{decisions_as_defined}
-use Rattle.layer_lines.proofs.FireLaws.{fires_as_defined}
-use Rattle.layer_lines.proofs.EntryLaws.{entries_as_defined}
+use Rattle.layer_runner.proofs.DecisionLaws.{decisions_as_defined}
+use Rattle.layer_runner.proofs.FireLaws.{fires_as_defined}
+use Rattle.layer_runner.proofs.EntryLaws.{entries_as_defined}
 use Rattle.layer_parts.specs.CounterParts.{IsSoundPart}
 use Rattle.layer_parts.specs.LayerWords.{IsSoundLayer}
 use Rattle.layer_parts.specs.Layers.{agree_registers, agree_words, fire_registers, fire_words}

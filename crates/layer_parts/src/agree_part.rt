@@ -10,7 +10,7 @@ use crate::registers::Registers;
 use consensus_layer::{AgreePart, Agreement, read_agree_over};
 use edge_io::PartError;
 use layer_laws::CounterNumbers;
-use layer_lines::DecisionLines;
+use layer_runner::DecisionLines;
 use std::alloc::Global;
 use sync_types::{Part, Rule};
 

@@ -10,7 +10,7 @@ use crate::registers::Registers;
 use edge_io::PartError;
 use firing::{Firing, Requests, read_fire_over};
 use layer_laws::CounterNumbers;
-use layer_lines::Fires;
+use layer_runner::Fires;
 use std::alloc::Global;
 use sync_types::{Part, Rule};
 

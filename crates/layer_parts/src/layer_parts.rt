@@ -5,7 +5,7 @@ ghost use Rattle.layer_parts.specs.LayerWords.{LayerWords, IsFresh, IsSoundLayer
 use crate::counter_parts::CounterPart;
 use counter_core::Overlay;
 use layer_laws::CounterNumbers;
-use layer_lines::Lines;
+use layer_runner::Lines;
 
 /// A part that says a layer above the counter, and is that layer.
 pub trait LayerPart: CounterPart + Overlay {

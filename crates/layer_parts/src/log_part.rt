@@ -9,7 +9,7 @@ use crate::layer_parts::LayerPart;
 use crate::registers::Registers;
 use edge_io::PartError;
 use layer_laws::CounterNumbers;
-use layer_lines::Logged;
+use layer_runner::Logged;
 use replicated_log::{LogPart, Replica, read_log_over};
 use std::alloc::Global;
 use sync_types::{Part, Rule};

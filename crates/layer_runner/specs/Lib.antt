@@ -5,3 +5,16 @@ pub mod Laws
 pub mod ReadOver
 pub mod Rooms
 pub mod Runners
+pub mod CountedSlots
+pub mod Counting
+pub mod DecisionTexts
+pub mod EntryTexts
+pub mod FireTexts
+pub mod LineLaws
+pub mod LengthSeen
+pub mod LinePromises
+pub mod LockTexts
+pub mod PlayedEras
+pub mod PlayedScripts
+pub mod PlayedTexts
+pub mod SlotTexts

@@ -2,7 +2,7 @@
 use Rattle.construction.specs.Runs.{IsState}
 use Rattle.plan_laws.specs.PlanMeaning.{plan_meaning}
 use Rattle.counter_core.specs.Overlays.{Layer}
-use Rattle.layer_lines.proofs.CountedSlots.{slots_count_over}
+use Rattle.layer_runner.proofs.CountedSlots.{slots_count_over}
 use Rattle.promises.specs.CountedSlots.{SlotsCount}
 use Rattle.promises.proofs.EraRuns.{plays_eras}
 

@@ -17,9 +17,9 @@ use Rattle.layer_laws.specs.LayerRuns.{IsLayerTable, scene}
 use Rattle.layer_laws.specs.Played.{IsKeptFor}
 use Rattle.counter_core.proofs.StateLists.{each_below}
 use Rattle.layer_laws.proofs.PlanCounters.{borne_by_counter, plans_settle}
-use Rattle.layer_lines.specs.PlayedEras.{PlaysEras}
+use Rattle.layer_runner.specs.PlayedEras.{PlaysEras}
 use Rattle.layer_laws.proofs.SceneSteps.{steps_as}
-use Rattle.layer_lines.proofs.PlayedScripts.{scripts_are_played_over}
+use Rattle.layer_runner.proofs.PlayedScripts.{scripts_are_played_over}
 use Rattle.machine_runner.proofs.Firsts.{in_era, none_inside, none_hit, era_some}
 use Rattle.promises.specs.LayeredEras.{IsReadFor, played_scene, lies_played, era_scenes}
 use Rattle.promises.specs.LayeredEras.{PlaysScript, ScriptsArePlayed}

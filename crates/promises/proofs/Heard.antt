@@ -13,7 +13,7 @@ use Rattle.adversary_script.specs.Lies.{AreStates, lie_of}
 use Rattle.adversary_script.proofs.LiesInRange.{lies_in_range}
 use Rattle.counter_core.proofs.StateLists.{choice_is}
 use Rattle.round_runner.specs.Played.{lies_at, heard_at}
-use Rattle.layer_lines.proofs.PlayedScripts.{told_is}
+use Rattle.layer_runner.proofs.PlayedScripts.{told_is}
 
 module _ (script : Script) (whole : IsScript script) (sound : IsShape script.shape) (t : ℕ)
     (config : List State) (range : AreStates script.nodes script.shape config) where

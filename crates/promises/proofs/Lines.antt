@@ -12,8 +12,8 @@ use Rattle.firing.specs.Firings.{fire_layer, unfired}
 use Rattle.firing.specs.FireLaws.{fire_keeps}
 use Rattle.replicated_log.specs.LogLaws.{log_keeps}
 use Rattle.replicated_log.specs.Logs.{log_layer}
-use Rattle.layer_lines.proofs.LinePromises.{lines_decide_over, lines_fire_together_over}
-use Rattle.layer_lines.proofs.LinePromises.{lines_put_one_over}
+use Rattle.layer_runner.proofs.LinePromises.{lines_decide_over, lines_fire_together_over}
+use Rattle.layer_runner.proofs.LinePromises.{lines_put_one_over}
 use Rattle.promises.specs.Promises.{LinesDecide, LinesFireTogether, LinesPutOne}
 use Rattle.promises.proofs.EraRuns.{plays_eras}
 

@@ -16,7 +16,7 @@ use Rattle.adversary_script.specs.Lies.{lie_of}
 use Rattle.round_runner.specs.Laws.{IsReadFor, ErasAreRuns}
 use Rattle.round_runner.specs.Played.{heard_at, played_at}
 use Rattle.promises.specs.PlainRuns.{lies_played, PlainScriptsArePlayed}
-use Rattle.layer_lines.proofs.PlayedScripts.{told_is}
+use Rattle.layer_runner.proofs.PlayedScripts.{told_is}
 use Rattle.promises.proofs.SaidLines.{says_lines}
 
 module _ (plan : Plan) (script : Script) (is : IsReadFor plan script) where

@@ -8,7 +8,7 @@ use Rattle.counter_core.specs.Overlays.{Layer, KeepsRange}
 use Rattle.adversary_script.specs.Scripts.{Script}
 use Rattle.layer_laws.specs.Played.{IsKeptFor}
 use Rattle.run_lines.specs.PlayedTexts.{configuration_in}
-use Rattle.layer_lines.specs.CountedSlots as any
+use Rattle.layer_runner.specs.CountedSlots as any
 use Rattle.promises.specs.LayeredEras.{IsReadFor}
 
 -- just the slots of q rounds that count have a line

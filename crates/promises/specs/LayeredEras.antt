@@ -13,8 +13,8 @@ use Rattle.layer_laws.specs.Scenes.{Scene}
 use Rattle.layer_laws.specs.LayerRuns.{LayerRun, LayerRound}
 use Rattle.layer_laws.specs.Played.{IsKeptFor}
 use Rattle.round_runner.specs.Runners.{IsPlayableOn}
-use Rattle.layer_lines.specs.PlayedEras as eras
-use Rattle.layer_lines.specs.PlayedScripts as any
+use Rattle.layer_runner.specs.PlayedEras as eras
+use Rattle.layer_runner.specs.PlayedScripts as any
 use Rattle.promises.specs.SaidLines.{SaysLines}
 
 -- a script that was read for an accepted plan, with the layer's registers after those of the plan

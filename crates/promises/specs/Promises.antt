@@ -4,7 +4,7 @@ use Rattle.construction.specs.Plans.{Plan, plan_faults}
 use Rattle.plan_laws.specs.PlanMeaning.{plan_meaning}
 use Rattle.adversary_script.specs.Scripts.{Script}
 use Rattle.layer_laws.specs.Slots.{slot_length}
-use Rattle.layer_lines.specs.LinePromises as any
+use Rattle.layer_runner.specs.LinePromises as any
 use Rattle.promises.specs.LayeredEras.{IsReadFor}
 use Rattle.consensus_layer.specs.AgreeContent.{AgreeContent}
 use Rattle.consensus_layer.specs.AgreePart as agree

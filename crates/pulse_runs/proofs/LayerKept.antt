@@ -9,13 +9,13 @@ use Rattle.adversary_script.specs.Eras.{first_of_era, faulty_of_era}
 use Rattle.machine_runner.proofs.Firsts.{end_within}
 use Rattle.machine_runner.specs.Laws.{IsUpTo, FirstsAreLocked}
 use Rattle.machine_runner.specs.Locks.{is_locked, first_locked, era_locked, IsFirstLocked}
-use Rattle.layer_lines.specs.LockTexts.{lock_of_era}
-use Rattle.layer_lines.specs.PlayedEras.{PlaysEras}
-use Rattle.layer_lines.proofs.CountedSlots.{slots_count_over}
-use Rattle.layer_lines.proofs.FirstListed.{first_listed}
-use Rattle.layer_lines.proofs.LinePromises.{lines_decide_over, lines_fire_together_over}
-use Rattle.layer_lines.proofs.LinePromises.{lines_put_one_over}
-use Rattle.layer_lines.proofs.PlayedScripts.{scripts_are_played_over}
+use Rattle.layer_runner.specs.LockTexts.{lock_of_era}
+use Rattle.layer_runner.specs.PlayedEras.{PlaysEras}
+use Rattle.layer_runner.proofs.CountedSlots.{slots_count_over}
+use Rattle.layer_runner.proofs.FirstListed.{first_listed}
+use Rattle.layer_runner.proofs.LinePromises.{lines_decide_over, lines_fire_together_over}
+use Rattle.layer_runner.proofs.LinePromises.{lines_put_one_over}
+use Rattle.layer_runner.proofs.PlayedScripts.{scripts_are_played_over}
 use Rattle.layer_laws.specs.CounterSlots.{slot_length}
 use Rattle.replicated_log.specs.EntryLength.{entry_length}
 use Rattle.sync_types.specs.States.{State}

@@ -12,7 +12,7 @@ use Rattle.layer_laws.specs.Numbers.{Numbers}
 use Rattle.layer_runner.specs.Counters.{machine_counter}
 use Rattle.layer_runner.specs.ReadOver.{IsReadWithLayer}
 use Rattle.layer_runner.specs.Laws.{IsPlayable}
-use Rattle.layer_lines.specs.PlayedTexts.{Wording, played_text}
+use Rattle.layer_runner.specs.PlayedTexts.{Wording, played_text}
 use Rattle.layer_parts.specs.declared.registers.Registers.{Registers}
 use Rattle.layer_parts.specs.CounterParts.{IsSoundPart}
 use Rattle.layer_parts.specs.LayerWords.{LayerWords, IsFresh, IsSoundLayer}

@@ -19,7 +19,7 @@ use Rattle.layer_laws.specs.CounterPlayed.{IsKeptFor}
 use Rattle.layer_runner.specs.Counters.{machine_counter}
 use Rattle.layer_runner.specs.Laws.{IsPlayable}
 use Rattle.layer_runner.proofs.EraScenes.{eras_count}
-use Rattle.layer_lines.specs.Counting.{ErasCount}
+use Rattle.layer_runner.specs.Counting.{ErasCount}
 use Rattle.consensus_layer.specs.AgreeContent.{AgreeContent}
 use Rattle.consensus_layer.specs.AgreePart as agree
 use Rattle.firing.specs.declared.requests.Request.{Request}

@@ -10,7 +10,7 @@ use Rattle.adversary_script.specs.Scripts.{Script}
 use Rattle.counter_core.specs.Meanings.{Meaning}
 use Rattle.counter_core.specs.Overlays.{Layer}
 use Rattle.layer_laws.specs.Positions.{Position, begun, IsBegun}
-use Rattle.layer_lines.specs.PlayedTexts.{Wording, played_text, text_of}
+use Rattle.layer_runner.specs.PlayedTexts.{Wording, played_text, text_of}
 use Rattle.texts.specs.Growth.{SinkState, Wrote, Cut}
 use Rattle.pulse_runs.specs.declared.errors.PlayError.{PlayError}
 use Rattle.pulse_runs.specs.declared.errors.PlayError.TheVariants as error

@@ -9,14 +9,14 @@ use Rattle.machine_runner.specs.Laws.{IsUpTo}
 use Rattle.machine_runner.specs.Locks.{is_locked, IsFirstLocked}
 use Rattle.layer_laws.specs.CounterSlots.{slot_length, AllAre}
 use Rattle.layer_laws.specs.CounterLayers.{scene}
-use Rattle.layer_lines.specs.CountedSlots.{SlotsAreExact}
-use Rattle.layer_lines.specs.DecisionTexts.{agree_scene}
-use Rattle.layer_lines.specs.EntryTexts.{log_scene}
-use Rattle.layer_lines.specs.FireTexts.{fire_scene}
-use Rattle.layer_lines.specs.LinePromises.{LineDecides, LineFires, LinePuts}
-use Rattle.layer_lines.specs.LockTexts.{lock_of_era}
-use Rattle.layer_lines.specs.PlayedScripts.{PlaysScript}
-use Rattle.layer_lines.specs.SlotTexts.{begins_at}
+use Rattle.layer_runner.specs.CountedSlots.{SlotsAreExact}
+use Rattle.layer_runner.specs.DecisionTexts.{agree_scene}
+use Rattle.layer_runner.specs.EntryTexts.{log_scene}
+use Rattle.layer_runner.specs.FireTexts.{fire_scene}
+use Rattle.layer_runner.specs.LinePromises.{LineDecides, LineFires, LinePuts}
+use Rattle.layer_runner.specs.LockTexts.{lock_of_era}
+use Rattle.layer_runner.specs.PlayedScripts.{PlaysScript}
+use Rattle.layer_runner.specs.SlotTexts.{begins_at}
 use Rattle.layer_runner.specs.Counters.{machine_counter}
 use Rattle.layer_runner.specs.ReadOver.{IsReadWithLayer}
 use Rattle.layer_runner.specs.Laws.{played_states, era_scenes, EraIsLayerRun, EraCountsFrom}

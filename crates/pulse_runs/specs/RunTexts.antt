@@ -17,9 +17,9 @@ use Rattle.machine_runner.specs.ShownTexts.{run_text}
 use Rattle.machine_runner.specs.HoldTexts.{hold_text}
 use Rattle.slot_table.specs.declared.lines.SlotLine.{SlotLine}
 use Rattle.layer_runner.specs.Counters.{machine_counter}
-use Rattle.layer_lines.specs.DecisionTexts.{decision_text}
-use Rattle.layer_lines.specs.FireTexts.{fire_text}
-use Rattle.layer_lines.specs.EntryTexts.{log_text}
+use Rattle.layer_runner.specs.DecisionTexts.{decision_text}
+use Rattle.layer_runner.specs.FireTexts.{fire_text}
+use Rattle.layer_runner.specs.EntryTexts.{log_text}
 use Rattle.consensus_layer.specs.AgreeContent.{AgreeContent}
 use Rattle.firing.specs.declared.requests.Request.{Request}
 use Rattle.replicated_log.specs.LogContent.{LogContent}

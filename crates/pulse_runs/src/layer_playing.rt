@@ -3,7 +3,7 @@ ghost use Rattle.pulse_plan.specs.Laws.{machine_in};
 ghost use Rattle.machine_runner.specs.Locks.{is_locked};
 ghost use Rattle.layer_runner.specs.Counters.{machine_counter};
 ghost use Rattle.layer_runner.specs.ReadOver.{IsReadWithLayer};
-ghost use Rattle.layer_lines.specs.PlayedTexts.{played_text};
+ghost use Rattle.layer_runner.specs.PlayedTexts.{played_text};
 ghost use Rattle.pulse_runs.specs.RunTexts.{IsPlayed, FailsToPlay, IsWritten, KeepsSink};
 ghost use Rattle.pulse_runs.specs.RunTexts.{layer_run};
 
@@ -12,9 +12,8 @@ use crate::reading::{Scripted, numbers_of, read_layered};
 use crate::refusals::put_error;
 use counter_core::Overlay;
 use edge_io::Sink;
-use layer_lines::{Lines, put_played};
 use layer_parts::LayerPart;
-use layer_runner::LayerRunner;
+use layer_runner::{LayerRunner, Lines, put_played};
 use machines::Machine;
 use std::alloc::Global;
 

@@ -4,7 +4,7 @@ use Rattle.construction.specs.Plans.{plan_nodes}
 use Rattle.plan_laws.specs.PlanMeaning.{plan_meaning}
 use Rattle.round_runner.specs.Locks.{is_locked}
 use Rattle.consensus_layer.specs.Agreements.{agree_layer}
-use Rattle.layer_lines.proofs.DecisionLaws as any
+use Rattle.layer_runner.proofs.DecisionLaws as any
 use Rattle.run_lines.specs.LayerLaws.{DecisionsAsDefined}
 use Rattle.run_lines.proofs.ErasCounted.{eras_counted}
 

@@ -4,7 +4,7 @@ use Rattle.construction.specs.Plans.{plan_nodes}
 use Rattle.plan_laws.specs.PlanMeaning.{plan_meaning}
 use Rattle.round_runner.specs.Locks.{is_locked}
 use Rattle.replicated_log.specs.Logs.{log_layer}
-use Rattle.layer_lines.proofs.EntryLaws as any
+use Rattle.layer_runner.proofs.EntryLaws as any
 use Rattle.run_lines.specs.LogLaws.{EntriesAsDefined}
 use Rattle.run_lines.proofs.ErasCounted.{eras_counted}
 

@@ -21,7 +21,7 @@ use Rattle.round_runner.specs.Runners.{IsPlayableOn}
 use Rattle.machine_runner.proofs.Firsts.{era_some}
 use Rattle.round_runner.proofs.ScenesRun.{states_at, cut_run, cut_length, cut_configuration}
 use Rattle.round_runner.proofs.ScenesRun.{scenes_run}
-use Rattle.layer_lines.specs.Counting.{EraCounts, ErasCount}
+use Rattle.layer_runner.specs.Counting.{EraCounts, ErasCount}
 
 module _ {Kept : Type 0} (plan : Plan) (script : Script) (layer : Layer Kept) (began : List Kept)
     (accepted : IsAccepted plan) (right : IsPlayableOn plan layer script)

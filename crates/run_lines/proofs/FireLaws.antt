@@ -4,7 +4,7 @@ use Rattle.construction.specs.Plans.{plan_nodes}
 use Rattle.plan_laws.specs.PlanMeaning.{plan_meaning}
 use Rattle.round_runner.specs.Locks.{is_locked}
 use Rattle.firing.specs.Firings.{fire_layer, unfired}
-use Rattle.layer_lines.proofs.FireLaws as any
+use Rattle.layer_runner.proofs.FireLaws as any
 use Rattle.run_lines.specs.LogLaws.{FiresAsDefined}
 use Rattle.run_lines.proofs.ErasCounted.{eras_counted}
 

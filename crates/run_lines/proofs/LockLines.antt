@@ -8,7 +8,7 @@ use Rattle.round_runner.specs.Known.{KnowsLocks}
 use Rattle.round_runner.specs.Locks.{first_locked, era_locked}
 use Rattle.round_runner.specs.Runners.{Running, IsPlaying, configuration_of}
 use Rattle.machine_runner.specs.RunTexts as texts
-use Rattle.layer_lines.proofs.LockLines.{same_locks}
+use Rattle.layer_runner.proofs.LockLines.{same_locks}
 use Rattle.run_lines.specs.RunTexts.{lock_of_era, lock_lines}
 use Rattle.round_runner.proofs.LocksKnown.{known_at_end}
 use Rattle.run_lines.proofs.FirstListed.{first_listed}

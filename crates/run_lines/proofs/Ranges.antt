@@ -7,8 +7,8 @@ use Rattle.std.specs.List.{flat_map, range_with_len}
 use Rattle.std.proofs.lemmas.Bool.{cases_lt, le-leb, lt-leb}
 use Rattle.std.proofs.lemmas.List.{take-append-drop}
 use Rattle.std.proofs.lemmas.List.Concat.{flat_map-append, flat_map-cons}
-use Rattle.layer_lines.proofs.Shown.{row_if_shown}
-pub use Rattle.layer_lines.proofs.SameTexts.{same_texts}
+use Rattle.layer_runner.proofs.Shown.{row_if_shown}
+pub use Rattle.layer_runner.proofs.SameTexts.{same_texts}
 
 -- numbers but for the first ones
 drop_range : (k n a : ℕ) → drop k (range_with_len a n) ≡ range_with_len (a + k) (n - k)

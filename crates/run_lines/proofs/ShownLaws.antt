@@ -15,7 +15,7 @@ use Rattle.run_lines.specs.ShownTexts.{shown_line, shown_lines, shown_wording}
 use Rattle.run_lines.specs.OutputTexts.{word_of_output}
 use Rattle.run_lines.specs.HoldTexts.{hold_word_at}
 use Rattle.run_lines.specs.LayerLaws.{ShownAsDefined, RowsAsDefined, HoldsAsDefined}
-use Rattle.layer_lines.proofs.SlotShift.{rows_in_place}
+use Rattle.layer_runner.proofs.SlotShift.{rows_in_place}
 
 pub shown_as_defined : ShownAsDefined
 shown_as_defined label word plan script within =

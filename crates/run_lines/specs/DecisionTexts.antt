@@ -8,8 +8,8 @@ use Rattle.layer_laws.specs.Scenes.{Scene}
 use Rattle.layer_laws.specs.Slots.{slot_length}
 use Rattle.consensus_layer.specs.AgreeContent.{AgreeContent}
 use Rattle.round_runner.specs.Locks.{is_locked}
-use Rattle.layer_lines.specs.DecisionTexts as any
-pub use Rattle.layer_lines.specs.DecisionTexts.{decision_word, slot_front, decision_wording}
+use Rattle.layer_runner.specs.DecisionTexts as any
+pub use Rattle.layer_runner.specs.DecisionTexts.{decision_word, slot_front, decision_wording}
 
 module _ (plan : Plan) (script : Script) (said : AgreeContent) where
   abbrev pub slot_of : ℕ

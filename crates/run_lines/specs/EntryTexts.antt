@@ -9,9 +9,9 @@ use Rattle.layer_laws.specs.Scenes.{Scene}
 use Rattle.replicated_log.specs.declared.entries.Entry.{Entry}
 use Rattle.replicated_log.specs.LogContent.{LogContent}
 use Rattle.round_runner.specs.Locks.{is_locked}
-use Rattle.layer_lines.specs.EntryTexts as any
-pub use Rattle.layer_lines.specs.EntryTexts.{newest_value, entry_word, entry_front, output_before}
-pub use Rattle.layer_lines.specs.EntryTexts.{entry_wording}
+use Rattle.layer_runner.specs.EntryTexts as any
+pub use Rattle.layer_runner.specs.EntryTexts.{newest_value, entry_word, entry_front, output_before}
+pub use Rattle.layer_runner.specs.EntryTexts.{entry_wording}
 
 module _ (plan : Plan) (script : Script) (said : LogContent) where
   -- scene c of what is played, if all logs are empty at first

@@ -8,8 +8,8 @@ use Rattle.layer_laws.specs.Scenes.{Scene}
 use Rattle.firing.specs.declared.requests.Request.{Request}
 use Rattle.firing.specs.declared.fires.Fire.{Fire}
 use Rattle.round_runner.specs.Locks.{is_locked}
-use Rattle.layer_lines.specs.FireTexts as any
-pub use Rattle.layer_lines.specs.FireTexts.{fired_word, fire_word, fire_front, fire_wording}
+use Rattle.layer_runner.specs.FireTexts as any
+pub use Rattle.layer_runner.specs.FireTexts.{fired_word, fire_word, fire_front, fire_wording}
 
 module _ (plan : Plan) (script : Script) (requests : List Request) where
   -- scene c of what is played, if none fires at first

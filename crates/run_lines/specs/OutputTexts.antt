@@ -8,7 +8,7 @@ use Rattle.construction.specs.Plans.{Plan, plan_depth}
 use Rattle.construction.specs.Shown.{shown}
 use Rattle.construction.specs.Steps.{state_of}
 use Rattle.counter_core.specs.Meanings.{Meaning}
-use Rattle.layer_lines.specs.SlotTexts.{output_of}
+use Rattle.layer_runner.specs.SlotTexts.{output_of}
 use Rattle.run_lines.specs.RunTexts.{word_or_star}
 use Rattle.run_lines.specs.PlayedTexts.{Wording, numbered}
 use Rattle.run_lines.specs.ShownTexts.{shown_wording}

@@ -8,8 +8,8 @@ use Rattle.counter_core.specs.Overlays.{Layer}
 use Rattle.adversary_script.specs.Scripts.{Script}
 use Rattle.layer_laws.specs.Scenes.{Scene}
 use Rattle.round_runner.specs.Locks.{is_locked}
-use Rattle.layer_lines.specs.PlayedTexts as any
-pub use Rattle.layer_lines.specs.PlayedTexts.{Wording, numbered}
+use Rattle.layer_runner.specs.PlayedTexts as any
+pub use Rattle.layer_runner.specs.PlayedTexts.{Wording, numbered}
 
 -- the line of a configuration
 abbrev pub line_of : {Kept : Type 0} → Wording Kept → Plan → Script → (c : ℕ) → Scene Kept → List ℕ

@@ -7,7 +7,7 @@ use Rattle.adversary_script.specs.Scripts.{Script}
 use Rattle.round_runner.specs.Locks.{is_locked}
 use Rattle.machine_runner.specs.RunTexts as texts
 pub use Rattle.machine_runner.specs.RunTexts.{bound_line, number_word, word_or_star, locked_line}
-use Rattle.layer_lines.specs.LockTexts as any
+use Rattle.layer_runner.specs.LockTexts as any
 
 -- the words of all nodes
 abbrev pub words_of_nodes : Plan → (word : ℕ → List ℕ) → (faulty : List ℕ) → List ℕ

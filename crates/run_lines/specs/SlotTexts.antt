@@ -5,8 +5,8 @@ use Rattle.sync_types.specs.States.{State}
 use Rattle.construction.specs.Plans.{Plan}
 use Rattle.plan_laws.specs.PlanMeaning.{plan_meaning}
 use Rattle.adversary_script.specs.Scripts.{Script}
-use Rattle.layer_lines.specs.SlotTexts as any
-pub use Rattle.layer_lines.specs.SlotTexts.{counts_at, may_end_at}
+use Rattle.layer_runner.specs.SlotTexts as any
+pub use Rattle.layer_runner.specs.SlotTexts.{counts_at, may_end_at}
 
 -- what the correct node of the lowest id shows in configuration c
 abbrev pub lead_output : Plan → Script → (c : ℕ) → List State → ℕ

@@ -19,7 +19,7 @@ mod rows;
 mod shortened;
 
 pub use holds::HoldLines;
-pub use layer_lines::{DecisionLines, Fires, Lines, Logged};
+pub use layer_runner::{DecisionLines, Fires, Lines, Logged};
 pub use lines::OutputLines;
 pub use locks::put_locks;
 pub use machine_runner::put_bound;

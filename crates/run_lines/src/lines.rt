@@ -5,7 +5,7 @@ ghost use Rattle.run_lines.specs.OutputTexts.{output_wording};
 use crate::outputs::Output;
 use counter_core::NoOverlay;
 use edge_io::{Sink, Writer};
-use layer_lines::Lines;
+use layer_runner::Lines;
 
 /// Lines of the configurations that are shown, whose words depend on what their nodes show. They
 /// can be written of a configuration that is not played, if its outputs are known.

@@ -20,5 +20,5 @@ pub fn put_locks<K: Sink, O: Overlay>(writer: &mut Writer<'_, K>, runner: &Runne
         (configuration_of O.layer began runner.now)) writer.old writer.new }
 {
     runner.facts();
-    layer_lines::put_locks(writer, runner);
+    layer_runner::put_locks(writer, runner);
 }

@@ -4,7 +4,7 @@ ghost use Rattle.run_lines.specs.Playing.{IsToPlay, text_of};
 use counter_core::Overlay;
 use edge_io::{Sink, WriteFault};
 use layer_laws::Play;
-use layer_lines::Lines;
+use layer_runner::Lines;
 use round_runner::Runner;
 
 /// Plays all rounds of a script on the counter of a plan, and writes the bound, a line of each
@@ -22,5 +22,5 @@ pub fn put_played<K: Sink, O: Overlay, L: Lines<O>>(
         (K.told sink.old) (K.told sink.new) }
 {
     runner.facts();
-    layer_lines::put_played(sink, runner, lines)
+    layer_runner::put_played(sink, runner, lines)
 }

@@ -15,7 +15,7 @@ use crate::locks::put_locks;
 use crate::outputs::Output;
 use counter_core::NoOverlay;
 use edge_io::{RisingText, Sink, WriteFault, Writer};
-use layer_lines::put_if_shown;
+use layer_runner::put_if_shown;
 use machine_runner::put_bound;
 use round_runner::Runner;
 

@@ -2,7 +2,7 @@ use Rattle.std.proofs.Common.{◌≡◌, ℕ, ◌+◌, ◌-◌, ◌%◌, ap, ap�
 use Rattle.std.specs.Prelude.{max, min}
 use Rattle.adversary_script.specs.Scripts.{Script, IsScript}
 use Rattle.run_lines.specs.PlayedTexts.{numbered}
-use Rattle.layer_lines.proofs.Played.{faulty_ids}
+use Rattle.layer_runner.proofs.Played.{faulty_ids}
 use Rattle.edge_io.proofs.Writing.{writes_is}
 use Rattle.run_lines.proofs.RestBehind.{counted_is, counted_set}
 use Rattle.run_lines.proofs.shortened.put_counted.Goals as goal

@@ -1,6 +1,6 @@
 use Rattle.std.proofs.Common.{ap, ◌∙◌, arith}
 use Rattle.layer_laws.specs.Slots.{slot_length}
-use Rattle.layer_lines.specs.DecisionTexts.{decision_wording}
+use Rattle.layer_runner.specs.DecisionTexts.{decision_wording}
 use Rattle.layer_parts.proofs.agree_part.AgreementLayerPart.lines.Goals as goal
 
 pub new-requires : goal.new-requires

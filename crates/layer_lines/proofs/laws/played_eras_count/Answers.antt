@@ -1,5 +1,0 @@
-use Rattle.layer_lines.proofs.laws.played_eras_count.Goals as goal
-use Rattle.layer_lines.proofs.EraCounting as law
-
-pub returns : goal.returns
-returns c end counter layer = law.played_eras_count layer _ _

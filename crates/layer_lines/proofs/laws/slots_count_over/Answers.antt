@@ -1,5 +1,0 @@
-use Rattle.layer_lines.proofs.laws.slots_count_over.Goals as goal
-use Rattle.layer_lines.proofs.CountedSlots as law
-
-pub returns : goal.returns
-returns c end counter layer = law.slots_count_over layer _ _
