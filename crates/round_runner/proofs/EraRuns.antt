@@ -125,7 +125,8 @@ module _ (plan : Plan) (s : Script) (is : IsReadFor plan s) where
     pub run_of_era : Run plan (faulty_of_era s j) (era_run plan s j)
     run_of_era = record {
       some = let some = era_some s is.whole j le in omega (arith, some, era_long s at j);
-      configurations = each_below (IsConfiguration plan) (λ i. played_at plan s (first_of_era s j + i))
+      configurations = each_below (IsConfiguration plan)
+          (λ i. played_at plan s (first_of_era s j + i))
           (end_of_era s j - first_of_era s j) (λ i lt. played_is (first_of_era s j + i));
       rounds = neighbours s at j (λ t. IsNext plan (faulty_of_era s j)) []
           (λ t low high. record { lies = lies_at s t (at t); round = round_in t low high });

@@ -142,7 +142,8 @@ module _ (plan : Plan) (accepted : IsAccepted plan) where
             (sym (get_or-map-range_with_len row 0 (plan_nodes plan) u u [] lt (omega arith)))
             (record {
               size = length-map-range_with_len (λ v. told_of plan told u v) 0 (plan_nodes plan);
-              states = each_below (IsState plan u) (λ v. told_of plan told u v) (plan_nodes plan) (λ v l.
+              states = each_below (IsState plan u) (λ v. told_of plan told u v) (plan_nodes plan)
+                  (λ v l.
                   let test : Message → Bool = λ t. eqb t.sender u && eqb t.receiver v in
                   or_has (IsState plan u) (λ t. IsOwn t × (test t ≡ true)) (find test told)
                   (zero_state (plan_depth plan))
