@@ -6,7 +6,7 @@ use Rattle.std.proofs.lemmas.List.{take_more}
 use Rattle.sync_types.specs.States.{State}
 use Rattle.state_codec.specs.Shapes.{bytes_in}
 use Rattle.state_codec.specs.Writing.{written}
-use Rattle.node_stepper.specs.Packets.{Packets, whole}
+use Rattle.node_stepper.specs.Packets.{Packets, whole, most_packets}
 use Rattle.node_stepper.specs.Laws.{packet_text, AreFull}
 use Rattle.node_stepper.specs.Nodes.{state_after, state_behind}
 use Rattle.node_stepper.proofs.CellByCell.{written_size}
@@ -44,7 +44,7 @@ module _ (text : List ℕ) (counter : AnyMachine) (is : counter_answer text ≡ 
       ≡ record { cells = packet ∷ []; ending = whole (0 + 1) }
   one_packet packet full some =
       ap (packets_for m) (sym (append-nil (packet_text packet)))
-      ∙ packets_back m.nodes (packet ∷ []) 1000000 0 some (full, tt) (omega arith)
+      ∙ packets_back m.nodes (packet ∷ []) most_packets 0 some (full, tt) (omega arith)
 
   -- a call with as many bytes as a state has
   tested : (v : ℕ) (state packets : List ℕ) → length state ≡ bytes_in (m.fields v)

@@ -9,7 +9,7 @@ use Rattle.sync_types.specs.States.{State, zero_state}
 use Rattle.state_codec.specs.Shapes.{Fields, bytes_in}
 use Rattle.state_codec.specs.Reading.{read}
 use Rattle.state_codec.specs.Writing.{written}
-use Rattle.node_stepper.specs.Packets.{Ending, whole, cut, beyond, Packets}
+use Rattle.node_stepper.specs.Packets.{Ending, whole, cut, beyond, Packets, most_packets}
 use Rattle.machines.specs.Machines.{Machine, IsToleratedBy}
 use Rattle.node_calls.specs.declared.any_machines.AnyMachine.{AnyMachine}
 use Rattle.node_calls.specs.Machines.{machine_of}
@@ -73,7 +73,7 @@ module _ (text : List ℕ) (counter : AnyMachine) (is : counter_answer text ≡ 
       error.Length (1, new) (sym (step_in_counter state packets) ∙ answers) in
       let done = ended (bytes_behind m v state all.cells) new 1 all.ending held.1 in
       let one : length all.cells ≡ 1 =
-      omega (arith, as_many (m.nodes) 1000000 0 1 packets done.0) in
+      omega (arith, as_many (m.nodes) most_packets 0 1 packets done.0) in
       done.1 ∙ ap (bytes_behind m v state) (only_one all.cells [] one)
 
 -- rounds of one node, which steps by calls

@@ -4,6 +4,7 @@ use Rattle.state_codec.specs.Shapes.{bytes_in}
 use Rattle.state_codec.specs.Reading.{read}
 use Rattle.state_codec.specs.Writing.{written}
 use Rattle.node_stepper.specs.Packets.{Packets, Ending, whole, cut, beyond, packets_of}
+use Rattle.node_stepper.specs.Packets.{most_packets}
 use Rattle.machines.specs.Machines.{Machine}
 use Rattle.node_calls.specs.declared.any_machines.AnyMachine.{AnyMachine}
 use Rattle.node_calls.specs.Machines.{machine_of}
@@ -38,7 +39,7 @@ output_answer text id state =
 
 -- the packets of these bytes, at most 1,000,000
 abbrev pub packets_for : Machine → List ℕ → Packets
-packets_for m bytes = packets_of m.nodes 1000000 0 bytes
+packets_for m bytes = packets_of m.nodes most_packets 0 bytes
 
 -- how many packets there were, and the new bytes; or why there are none
 abbrev pub by_ending : (new : List ℕ) → Ending → Result (ℕ × List ℕ) CallError

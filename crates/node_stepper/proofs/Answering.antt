@@ -11,6 +11,7 @@ use Rattle.sync_types.specs.States.{State}
 use Rattle.machines.specs.Machines.{Machine}
 use Rattle.node_stepper.specs.declared.faults.NodeFault.TheVariants as fault
 use Rattle.node_stepper.specs.Packets.{cells_of, Ending, whole, cut, beyond, Packets, packets_of}
+use Rattle.node_stepper.specs.Packets.{most_packets}
 use Rattle.node_stepper.specs.Nodes.{Standing, own, nobody, state_cell, state_after, state_behind}
 use Rattle.node_stepper.specs.Nodes.{stepped, forgetting}
 use Rattle.node_stepper.specs.Hearing.{IsSame, PacketFed, PacketCut}
@@ -46,8 +47,8 @@ module _ {M : Type 0} (machine : M → Machine) where
       pub packets : List (List (List ℕ))
       pub read : Consumes s t bytes
       pub are : (rest : List ℕ)
-          → packets_of size 1000000 0 (bytes ++ rest)
-          ≡ after packets (packets_of size (1000000 - count) count rest)
+          → packets_of size most_packets 0 (bytes ++ rest)
+          ≡ after packets (packets_of size (most_packets - count) count rest)
       pub stands : StandsBehind machine before now packets
       pub wrote : Wrote (answer machine before packets) w x
 
@@ -99,8 +100,9 @@ module _ {M : Type 0} (machine : M → Machine) where
     module _ (now : Standing M) (s t u : Option (List ℕ)) (w x : SinkState) (count : ℕ)
         (h : ServedSoFar now s t w x count) where
       all_of : (rest : List ℕ) (ending : Ending)
-          → packets_of size (1000000 - count) count rest ≡ record { cells = []; ending = ending }
-          → packets_of size 1000000 0 (h.bytes ++ rest)
+          → packets_of size (most_packets - count) count rest
+          ≡ record { cells = []; ending = ending }
+          → packets_of size most_packets 0 (h.bytes ++ rest)
           ≡ record { cells = h.packets; ending = ending }
       all_of rest ending is =
           h.are rest ∙ ap (after h.packets) is
@@ -111,9 +113,9 @@ module _ {M : Type 0} (machine : M → Machine) where
       module _ (new : Standing M) (stands : StandsBehind machine before new h.packets)
           (rest : List ℕ)
           (ending : Ending) (read : Consumes t u rest)
-          (is : packets_of size (1000000 - count) count rest
+          (is : packets_of size (most_packets - count) count rest
           ≡ record { cells = []; ending = ending }) where
-        all : packets_of size 1000000 0 (h.bytes ++ rest)
+        all : packets_of size most_packets 0 (h.bytes ++ rest)
             ≡ record { cells = h.packets; ending = ending }
         all = all_of rest ending is
 
@@ -128,18 +130,18 @@ module _ {M : Type 0} (machine : M → Machine) where
         pub stops_so : (served machine before (h.bytes ++ rest)).ending ≡ ending
         stops_so = ap (λ (p : Packets). p.ending) all
 
-      left_some : count < 1000000 → 1000000 - count ≡ suc (1000000 - (count + 1))
+      left_some : count < most_packets → most_packets - count ≡ suc (most_packets - (count + 1))
       left_some lt = omega arith
 
-      inside : (sender : ℕ) → count < 1000000
+      inside : (sender : ℕ) → count < most_packets
           → (p : PacketCut ((machine now.counter).nodes) sender t u)
-          → packets_of size (1000000 - count) count p.bytes
+          → packets_of size (most_packets - count) count p.bytes
           ≡ record { cells = []; ending = cut count sender }
       inside sender lt p =
           let same : (machine now.counter).nodes ≡ size =
           ap (λ c. (machine c).nodes) h.stands.counter in
           ap (λ n. packets_of size n count p.bytes) (left_some lt)
-          ∙ packets_cut size (1000000 - (count + 1)) count sender p.bytes p.some
+          ∙ packets_cut size (most_packets - (count + 1)) count sender p.bytes p.some
           (ap (λ n. cells_of n 0 p.bytes) (sym same) ∙ p.cut)
 
       -- what was read so far ends with its packets
@@ -148,10 +150,10 @@ module _ {M : Type 0} (machine : M → Machine) where
           ap (λ (l : List ℕ). (served machine before l).ending) (sym (append-nil h.bytes))
           ∙ ap (λ (p : Packets). p.ending) (all_of [] (whole count) refl)
 
-      past : (b : ℕ) (rest : List ℕ) → count ≡ 1000000
-          → packets_of size (1000000 - count) count (b ∷ rest)
+      past : (b : ℕ) (rest : List ℕ) → count ≡ most_packets
+          → packets_of size (most_packets - count) count (b ∷ rest)
           ≡ record { cells = []; ending = beyond }
-      past b rest e = let none : 1000000 - count ≡ 0 = omega (arith, e) in rw none refl
+      past b rest e = let none : most_packets - count ≡ 0 = omega (arith, e) in rw none refl
 
       -- the engine as it stood, once it forgets who was heard of a packet that was not whole
       pub again : (mid new : Standing M) → IsSame now mid → new ≡ forgetting machine mid
@@ -170,7 +172,7 @@ module _ {M : Type 0} (machine : M → Machine) where
 
       -- one more packet
       module _ (mid new : Standing M) (node : now.id < (machine now.counter).nodes)
-          (lt : count < 1000000)
+          (lt : count < most_packets)
           (fed : PacketFed machine now mid t u) (is_new : new ≡ stepped machine mid) where
         same_nodes : (machine now.counter).nodes ≡ size
         same_nodes = ap (λ c. (machine c).nodes) h.stands.counter
@@ -179,18 +181,19 @@ module _ {M : Type 0} (machine : M → Machine) where
         whole_here rest = ap (λ n. cells_of n 0 (fed.bytes ++ rest)) (sym same_nodes)
             ∙ fed.whole rest
 
-        are_more : (rest : List ℕ) → packets_of size 1000000 0 ((h.bytes ++ fed.bytes) ++ rest)
+        are_more : (rest : List ℕ) → packets_of size most_packets 0 ((h.bytes ++ fed.bytes) ++ rest)
             ≡ after (h.packets ++ fed.packet ∷ [])
-            (packets_of size (1000000 - (count + 1)) (count + 1) rest)
+            (packets_of size (most_packets - (count + 1)) (count + 1) rest)
         are_more rest =
-            ap (packets_of size 1000000 0) (append_assoc h.bytes fed.bytes rest)
+            ap (packets_of size most_packets 0) (append_assoc h.bytes fed.bytes rest)
             ∙ h.are (fed.bytes ++ rest)
             ∙ ap (after h.packets) (ap (λ n. packets_of size n count (fed.bytes ++ rest))
             (left_some lt)
-            ∙ packets_next size (1000000 - (count + 1)) count fed.bytes rest fed.packet fed.some
+            ∙ packets_next size (most_packets - (count + 1)) count fed.bytes rest fed.packet
+            fed.some
             (whole_here rest))
             ∙ after_one_more h.packets fed.packet
-            (packets_of size (1000000 - (count + 1)) (count + 1)
+            (packets_of size (most_packets - (count + 1)) (count + 1)
             rest)
 
         stands_more : StandsBehind machine before new (h.packets ++ fed.packet ∷ [])
@@ -242,7 +245,8 @@ module _ {M : Type 0} (machine : M → Machine) where
         last_packets : served machine before (h.bytes ++ fed.bytes)
             ≡ record { cells = h.packets ++ fed.packet ∷ []; ending = whole (count + 1) }
         last_packets =
-            ap (packets_of size 1000000 0) (sym (append-nil (h.bytes ++ fed.bytes))) ∙ are_more []
+            ap (packets_of size most_packets 0) (sym (append-nil (h.bytes ++ fed.bytes)))
+            ∙ are_more []
             ∙ ap (λ (l : List (List (List ℕ))). let p : Packets =
             record { cells = l; ending = whole (count + 1) } in p)
             (append-nil (h.packets ++ fed.packet ∷ []))
@@ -254,7 +258,7 @@ module _ {M : Type 0} (machine : M → Machine) where
           bytes = h.bytes ++ fed.bytes;
           read = Consumes-trans s t u h.bytes fed.bytes h.read fed.read;
           cut = λ rest.
-              let all = packets_of size (1000000 - (count + 1)) (count + 1) rest in
+              let all = packets_of size (most_packets - (count + 1)) (count + 1) rest in
               let text : Cut (answer machine before (h.packets ++ fed.packet ∷ [])) w y =
               rw (
                 text_push (machine before.counter) before.id (own before) h.packets fed.packet,
@@ -296,7 +300,7 @@ module _ {M : Type 0} (machine : M → Machine) where
             end,
           )
 
-      pub served_inside : (sender : ℕ) (mid new : Standing M) → count < 1000000
+      pub served_inside : (sender : ℕ) (mid new : Standing M) → count < most_packets
           → PacketCut ((machine now.counter).nodes) sender t u → IsAtEnd u
           → IsSame now mid → new ≡ forgetting machine mid
           → Serves machine before new s u w x (Err (fault.Cut count sender))
@@ -309,7 +313,7 @@ module _ {M : Type 0} (machine : M → Machine) where
             end,
           )
 
-      pub served_fault : (mid new : Standing M) → count < 1000000
+      pub served_fault : (mid new : Standing M) → count < most_packets
           → Consumes t u [] ⊎ ((sender : ℕ) × PacketCut ((machine now.counter).nodes) sender t u)
           → IsSame now mid → new ≡ forgetting machine mid
           → Serves machine before new s u w x (Err fault.ReadFault)
@@ -326,13 +330,13 @@ module _ {M : Type 0} (machine : M → Machine) where
             within_if (stops_so new stands p.bytes (cut count sender) p.read ends) tt,
           )
 
-      pub served_beyond : (b : ℕ) → count ≡ 1000000 → Consumes t u (b ∷ [])
+      pub served_beyond : (b : ℕ) → count ≡ most_packets → Consumes t u (b ∷ [])
           → Serves machine before now s u w x (Err fault.TooLong)
       unfolding stops
       served_beyond b e read = (
         stops now h.stands (b ∷ []) beyond read (past b [] e),
         λ rest.
-            ap (packets_of size 1000000 0) (append_assoc h.bytes (b ∷ []) rest)
+            ap (packets_of size most_packets 0) (append_assoc h.bytes (b ∷ []) rest)
             ∙ all_of (b ∷ rest) beyond (past b rest e)
             ∙ ap (λ (l : List (List (List ℕ))). let p : Packets =
             record { cells = l; ending = beyond } in p)
@@ -341,17 +345,17 @@ module _ {M : Type 0} (machine : M → Machine) where
       )
 
       -- the end after the last packet
-      last : count ≡ 1000000 → packets_of size (1000000 - count) count []
-          ≡ record { cells = []; ending = whole 1000000 }
+      last : count ≡ most_packets → packets_of size (most_packets - count) count []
+          ≡ record { cells = []; ending = whole most_packets }
       last e = ap (λ n. let p : Packets = record { cells = []; ending = whole n } in p) e
 
-      pub served_full : count ≡ 1000000 → Keeps t u → IsAtEnd u
-          → Serves machine before now s u w x (Ok 1000000)
+      pub served_full : count ≡ most_packets → Keeps t u → IsAtEnd u
+          → Serves machine before now s u w x (Ok most_packets)
       unfolding stops
       served_full e keeps end =
           let read = Consumes-kept t t u [] (Consumes-nil t) keeps in (
-            stops now h.stands [] (whole 1000000) read (last e),
-            stops_so now h.stands [] (whole 1000000) read (last e),
+            stops now h.stands [] (whole most_packets) read (last e),
+            stops_so now h.stands [] (whole most_packets) read (last e),
             end,
           )
 

@@ -46,6 +46,10 @@ pub record Packets : Type 0 where
 abbrev pub onto_packet : List (List ℕ) → Packets → Packets
 onto_packet packet packets = record { cells = packet ∷ packets.cells; ending = packets.ending }
 
+-- how many packets are answered at most
+abbrev pub most_packets : ℕ
+most_packets = 1000000
+
 -- at most so many packets of so many nodes, the first of which has the number `from`
 abbrev pub packets_of : (nodes : ℕ) → (most from : ℕ) → List ℕ → Packets
 packets_of nodes most from [] = record { cells = []; ending = whole from }

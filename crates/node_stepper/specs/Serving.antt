@@ -8,6 +8,7 @@ use Rattle.machines.specs.Machines.{Machine}
 use Rattle.node_stepper.specs.declared.faults.NodeFault.{NodeFault}
 use Rattle.node_stepper.specs.declared.faults.NodeFault.TheVariants as fault
 use Rattle.node_stepper.specs.Packets.{packets_of, Packets, IsWithin, whole, cut, beyond}
+use Rattle.node_stepper.specs.Packets.{most_packets}
 use Rattle.node_stepper.specs.Nodes.{Standing, own, nobody, state_cell, state_behind, node_text}
 
 -- which machine each counter is
@@ -23,7 +24,7 @@ module _ {M : Type 0} (machine : M → Machine) where
   module _ (before : Standing M) where
     -- the packets of an input
     abbrev pub served : List ℕ → Packets
-    served bytes = packets_of ((machine before.counter).nodes) 1000000 0 bytes
+    served bytes = packets_of ((machine before.counter).nodes) most_packets 0 bytes
 
     -- these bytes do not show that there are too many: none is of packet 1,000,001
     abbrev pub ServicePending : List ℕ → Type 0

@@ -13,7 +13,7 @@ use Rattle.node_words.specs.HeaderParts.{HeaderOf}
 use Rattle.node_words.specs.Fits.{IsFit}
 use Rattle.node_words.specs.FedHeaders.{HeaderWhole}
 use Rattle.node_stepper.specs.Nodes.{Standing, own, begun, node_text}
-use Rattle.node_stepper.specs.Packets.{packets_of}
+use Rattle.node_stepper.specs.Packets.{packets_of, most_packets}
 use Rattle.node_stepper.specs.Serving.{served, answer}
 use Rattle.node_words.specs.Constructions.{Words, IsShaped}
 use Rattle.node_words.specs.NodeAnswers.{packets_for}
@@ -82,7 +82,7 @@ module _ {Reader Plan Premise M : Type 0} (words : Words Reader Plan Premise)
         ∙ ap (λ (v : ℕ). node_text m v (own e) packets) is.id
         ∙ ap (λ (s : State). node_text m h.node.id s packets) is.state);
     hears = λ bytes.
-        ap (λ (m : Machine). packets_of m.nodes 1000000 0 bytes) (sym is.counter);
+        ap (λ (m : Machine). packets_of m.nodes most_packets 0 bytes) (sym is.counter);
   }
 
   -- of a header that was read

@@ -10,7 +10,7 @@ use Rattle.state_codec.specs.Writing.{written}
 use Rattle.machines.specs.Machines.{Machine, IsState}
 use Rattle.machines.specs.Laws.{IsSound}
 use Rattle.node_words.specs.HeaderParts.{HeaderOf, header_in}
-use Rattle.node_stepper.specs.Packets.{Packets, packets_of, whole as all_whole}
+use Rattle.node_stepper.specs.Packets.{Packets, packets_of, whole as all_whole, most_packets}
 use Rattle.node_stepper.specs.Laws.{packet_text, AreFull}
 use Rattle.node_stepper.proofs.ReadBack.{packets_back}
 use Rattle.node_stepper.specs.Nodes.{node_text}
@@ -50,7 +50,7 @@ pub record AreFed (m : Machine) (faulty : List ℕ) (nodes : Nodes) (count : ℕ
   pub starts : (v : ℕ) → IsCorrect m faulty v → IsState m v (nodes.starts v)
   pub long : (v : ℕ) → IsCorrect m faulty v → length (nodes.packets v) ≡ count v
   pub full : (v : ℕ) → IsCorrect m faulty v → AreFull m.nodes (nodes.packets v)
-  pub few : (v : ℕ) → IsCorrect m faulty v → count v ≤ 1000000
+  pub few : (v : ℕ) → IsCorrect m faulty v → count v ≤ most_packets
 
 abbrev pub input_with : (header : List ℕ) (packets : List (List (List ℕ))) → List ℕ
 input_with header packets = header ++ flat_map packet_text packets
@@ -95,7 +95,7 @@ module _ {Reader Plan Premise : Type 0} (words : Words Reader Plan Premise)
 
   module _ (v : ℕ) (lt : v < m.nodes) (s : State) (is : IsState m v s)
       (packets : List (List (List ℕ))) (full : AreFull m.nodes packets)
-      (few : length packets ≤ 1000000) where
+      (few : length packets ≤ most_packets) where
     abbrev plan : Plan
     plan = plans v
 
@@ -122,10 +122,10 @@ module _ {Reader Plan Premise : Type 0} (words : Words Reader Plan Premise)
 
     behind_is : packets_for words header (behind_lines (lines plan) input) ≡ all
     behind_is =
-        ap (packets_of (words.machine plan).nodes 1000000 0) (read true).1
-        ∙ ap (λ (k : Machine). packets_of k.nodes 1000000 0 (flat_map packet_text packets))
+        ap (packets_of (words.machine plan).nodes most_packets 0) (read true).1
+        ∙ ap (λ (k : Machine). packets_of k.nodes most_packets 0 (flat_map packet_text packets))
         (stated.machine v)
-        ∙ packets_back m.nodes packets 1000000 0 (omega (arith, lt)) full few
+        ∙ packets_back m.nodes packets most_packets 0 (omega (arith, lt)) full few
 
     packets_are : packets_in words (whole input) ≡ packets
     packets_are =
@@ -142,7 +142,7 @@ module _ {Reader Plan Premise : Type 0} (words : Words Reader Plan Premise)
       abbrev inputs : ℕ → List ℕ
       inputs = inputs_of (texts_by text plans) nodes
 
-      few_packets : (v : ℕ) → IsCorrect m faulty v → length (nodes.packets v) ≤ 1000000
+      few_packets : (v : ℕ) → IsCorrect m faulty v → length (nodes.packets v) ≤ most_packets
       few_packets v correct = omega (arith, fed.long v correct, fed.few v correct)
 
       pub begin : (v : ℕ) → IsCorrect m faulty v → header_of words (whole (inputs v))

@@ -4,6 +4,7 @@ use Rattle.sync_types.specs.States.{State}
 use Rattle.machines.specs.Machines.{Machine}
 use Rattle.node_stepper.specs.RunLaws.{Connects}
 use Rattle.node_stepper.proofs.Connected.{any_lies_connect}
+use Rattle.node_stepper.specs.Packets.{most_packets}
 use Rattle.node_words.specs.Constructions.{Words}
 use Rattle.node_words.specs.Inputs.{header_stated, AreOneMachine, BeginIn}
 use Rattle.node_words.specs.Inputs.{InputsConnect, AnyInputsConnect}
@@ -13,7 +14,7 @@ use Rattle.node_words.proofs.InputBytes.{connected_fit}
 
 -- nodes that are connected are fed
 pub fed_by : (m : Machine) (faulty : List ℕ) (starts : ℕ → State) (sent : ℕ → ℕ → ℕ → List ℕ)
-    (begins : ℕ → ℕ) (rounds : ℕ) → ((v : ℕ) → begins v + rounds ≤ 1000000)
+    (begins : ℕ → ℕ) (rounds : ℕ) → ((v : ℕ) → begins v + rounds ≤ most_packets)
     → (c : Connects m faulty starts sent begins rounds)
     → AreFed m faulty c.nodes (λ v. begins v + rounds)
 fed_by m faulty starts sent begins rounds few c = record {
@@ -28,7 +29,7 @@ module _ {Reader Plan Premise : Type 0} (words : Words Reader Plan Premise)
     (law : AreWritten words Accepted lines text) (m : Machine) (plans : ℕ → Plan)
     (stated : AreOneMachine words Accepted m plans)
     (faulty : List ℕ) (starts : ℕ → State) (sent : ℕ → ℕ → ℕ → List ℕ) (begins : ℕ → ℕ)
-    (rounds : ℕ) (few : (v : ℕ) → begins v + rounds ≤ 1000000)
+    (rounds : ℕ) (few : (v : ℕ) → begins v + rounds ≤ most_packets)
     (c : Connects m faulty starts sent begins rounds) where
   abbrev count : ℕ → ℕ
   count v = begins v + rounds

@@ -8,6 +8,7 @@ use Rattle.node_stepper.specs.Losses.{AreMissed}
 use Rattle.node_stepper.specs.Lossy.{ConnectsMost}
 use Rattle.node_stepper.proofs.Connected.{any_losses_connect}
 use Rattle.node_stepper.proofs.Losses.{not_so}
+use Rattle.node_stepper.specs.Packets.{most_packets}
 use Rattle.node_words.specs.Constructions.{Words}
 use Rattle.node_words.specs.Calls.{whole, cell_heard}
 use Rattle.node_words.specs.CallWindows.{CallsAreHeard}
@@ -24,7 +25,7 @@ module _ {Reader Plan Premise : Type 0} (words : Words Reader Plan Premise)
     (stated : AreOneMachine words Accepted m plans) (faulty : List ℕ) (starts : ℕ → State)
     (sent : ℕ → ℕ → ℕ → List ℕ)
     (missed : (i v : ℕ) → List ℕ) (begins : ℕ → ℕ) (rounds : ℕ)
-    (few : (v : ℕ) → begins v + rounds ≤ 1000000)
+    (few : (v : ℕ) → begins v + rounds ≤ most_packets)
     (are : (i v : ℕ) → i < rounds → IsCorrect m faulty v → AreMissed m faulty v (missed i v))
     (c : ConnectsMost m faulty starts sent missed begins rounds) where
   abbrev count : ℕ → ℕ

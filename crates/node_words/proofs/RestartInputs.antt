@@ -8,6 +8,7 @@ use Rattle.machines.specs.Machines.{Machine}
 use Rattle.node_stepper.specs.NodeRuns.{Nodes, cell_given, IsCorrect}
 use Rattle.node_stepper.specs.Restarts.{begins_later, AreFaultyMeanwhile, RestartConnects}
 use Rattle.node_stepper.proofs.Restarts.{apart, correct_too, any_restart_connects}
+use Rattle.node_stepper.specs.Packets.{most_packets}
 use Rattle.node_words.specs.Constructions.{Words}
 use Rattle.node_words.specs.Calls.{whole, cell_heard}
 use Rattle.node_words.specs.CallWindows.{CallsConnect}
@@ -63,7 +64,7 @@ module _ {Reader Plan Premise : Type 0} (words : Words Reader Plan Premise)
     (stated : AreOneMachine words Accepted m plans) (faulty meanwhile : List ℕ) (node after : ℕ)
     (too : AreFaultyMeanwhile node faulty meanwhile)
     (starts : ℕ → State) (sent : ℕ → ℕ → ℕ → List ℕ) (begins : ℕ → ℕ) (rounds : ℕ)
-    (few : (v : ℕ) → begins v + (after + rounds) ≤ 1000000)
+    (few : (v : ℕ) → begins v + (after + rounds) ≤ most_packets)
     (r : RestartConnects m faulty meanwhile node after starts sent begins rounds) where
   abbrev later : ℕ → ℕ
   later = begins_later node after begins
@@ -77,7 +78,7 @@ module _ {Reader Plan Premise : Type 0} (words : Words Reader Plan Premise)
   abbrev fed : AreFed m faulty own count
   fed =
       fed_by m faulty starts r.sent_later later rounds
-      (few_later node after begins rounds 1000000 few) r.rest
+      (few_later node after begins rounds most_packets few) r.rest
 
   abbrev inputs : ℕ → List ℕ
   inputs = inputs_of (texts_by text plans) own

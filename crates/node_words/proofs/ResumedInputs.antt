@@ -14,6 +14,7 @@ use Rattle.node_stepper.specs.NodeRuns.{Nodes, cell_given, IsCorrect}
 use Rattle.node_stepper.specs.Restarts.{begins_later, AreFaultyMeanwhile, ResumptionConnects}
 use Rattle.node_stepper.proofs.States.{reads_back, behind_is_state}
 use Rattle.node_stepper.proofs.Restarts.{correct_too, any_resumption_connects}
+use Rattle.node_stepper.specs.Packets.{most_packets}
 use Rattle.node_words.specs.Constructions.{Words}
 use Rattle.node_words.specs.Calls.{Call, whole, header_of, text_of, cell_heard}
 use Rattle.node_words.specs.HeaderPromises.{HeadersAreOfMachines}
@@ -42,7 +43,7 @@ module _ {Reader Plan Premise : Type 0} (words : Words Reader Plan Premise)
     (faulty meanwhile : List ℕ) (node after : ℕ)
     (too : AreFaultyMeanwhile node faulty meanwhile) (right : IsCorrect m faulty node)
     (starts : ℕ → State) (sent : ℕ → ℕ → ℕ → List ℕ) (begins : ℕ → ℕ) (rounds : ℕ)
-    (few : (v : ℕ) → begins v + (after + rounds) ≤ 1000000)
+    (few : (v : ℕ) → begins v + (after + rounds) ≤ most_packets)
     (begun : (v : ℕ) → IsCorrect m faulty v → IsState m v (starts v))
     (r : ResumptionConnects m faulty meanwhile node after starts sent begins rounds) where
   is_sound : IsSound m
@@ -75,7 +76,7 @@ module _ {Reader Plan Premise : Type 0} (words : Words Reader Plan Premise)
   abbrev fed_two : AreFed m faulty two two_count
   fed_two =
       fed_by m faulty _ r.restart.sent_later later rounds
-      (few_later node after begins rounds 1000000 few) r.restart.rest
+      (few_later node after begins rounds most_packets few) r.restart.rest
 
   abbrev inputs : ℕ → List ℕ
   inputs = inputs_of (texts_by text plans) one

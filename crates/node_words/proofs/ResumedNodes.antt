@@ -11,6 +11,7 @@ use Rattle.node_stepper.specs.Laws.{AreFull}
 use Rattle.node_stepper.specs.NodeRuns.{Nodes, cell_given, IsCorrect, state_at, state_in}
 use Rattle.node_stepper.specs.Restarts.{begins_later, AreFaultyMeanwhile, ResumptionConnects}
 use Rattle.node_stepper.proofs.Restarts.{apart}
+use Rattle.node_stepper.specs.Packets.{most_packets}
 use Rattle.node_words.proofs.InputTexts.{AreFed}
 
 module _ (m : Machine) (faulty meanwhile : List ℕ) (node after : ℕ)
@@ -152,11 +153,11 @@ module _ (m : Machine) (faulty meanwhile : List ℕ) (node after : ℕ)
   few_by v most few true = omega (arith, few)
   few_by v most few false = few
 
-  pub fed_old : ((v : ℕ) → begins v + (after + rounds) ≤ 1000000)
+  pub fed_old : ((v : ℕ) → begins v + (after + rounds) ≤ most_packets)
       → ((v : ℕ) → IsCorrect m faulty v → IsState m v (starts v)) → AreFed m faulty old count
   fed_old few begun = record {
     starts = begun;
     long = λ v correct. long_by v (v == node) refl;
     full = λ v correct. full_by v (v == node);
-    few = λ v correct. few_by v 1000000 (few v) (v == node);
+    few = λ v correct. few_by v most_packets (few v) (v == node);
   }

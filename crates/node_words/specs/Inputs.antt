@@ -6,6 +6,7 @@ use Rattle.machines.specs.Machines.{Machine, IsState}
 use Rattle.node_words.specs.HeaderParts.{HeaderOf}
 use Rattle.node_stepper.specs.Bytes.{AreBytes, AllFit}
 use Rattle.node_stepper.specs.NodeRuns.{IsCorrect}
+use Rattle.node_stepper.specs.Packets.{most_packets}
 use Rattle.node_words.specs.Constructions.{Words}
 use Rattle.node_words.specs.NodeAnswers.{node_outcome}
 use Rattle.node_words.specs.Calls.{whole, header_of, cell_heard}
@@ -55,6 +56,6 @@ module _ {Reader Plan Premise : Type 0} (words : Words Reader Plan Premise) (lin
   AnyInputsConnect Accepted = (m : Machine) (plans : ℕ → Plan)
       → AreOneMachine words Accepted m plans → (faulty : List ℕ) (starts : ℕ → State)
       (sent : ℕ → ℕ → ℕ → List ℕ) (begins : ℕ → ℕ) (rounds : ℕ)
-      → ((v : ℕ) → begins v + rounds ≤ 1000000)
+      → ((v : ℕ) → begins v + rounds ≤ most_packets)
       → ((v : ℕ) → IsCorrect m faulty v → IsState m v (starts v))
       → InputsConnect m plans faulty starts sent begins rounds

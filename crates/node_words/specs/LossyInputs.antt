@@ -6,6 +6,7 @@ use Rattle.machines.specs.Machines.{Machine, IsState}
 use Rattle.node_stepper.specs.Bytes.{AreBytes, AllFit}
 use Rattle.node_stepper.specs.NodeRuns.{IsCorrect}
 use Rattle.node_stepper.specs.Losses.{AreMissed}
+use Rattle.node_stepper.specs.Packets.{most_packets}
 use Rattle.node_words.specs.Constructions.{Words}
 use Rattle.node_words.specs.NodeAnswers.{node_outcome}
 use Rattle.node_words.specs.Calls.{whole, cell_heard}
@@ -41,7 +42,7 @@ module _ {Reader Plan Premise : Type 0} (words : Words Reader Plan Premise) (lin
       → AreOneMachine words Accepted m plans → (faulty : List ℕ)
       (starts : ℕ → State) (sent : ℕ → ℕ → ℕ → List ℕ) (missed : (i v : ℕ) → List ℕ)
       (begins : ℕ → ℕ) (rounds : ℕ)
-      → ((v : ℕ) → begins v + rounds ≤ 1000000)
+      → ((v : ℕ) → begins v + rounds ≤ most_packets)
       → ((v : ℕ) → IsCorrect m faulty v → IsState m v (starts v))
       → ((i v : ℕ) → i < rounds → IsCorrect m faulty v → AreMissed m faulty v (missed i v))
       → InputsLose m plans faulty starts sent missed begins rounds

@@ -10,6 +10,7 @@ use Rattle.node_stepper.specs.declared.faults.NodeFault.{NodeFault}
 use Rattle.node_stepper.specs.declared.faults.NodeFault.TheVariants as fault
 use Rattle.node_stepper.specs.Nodes.{node_text}
 use Rattle.node_stepper.specs.Packets.{Ending, whole, cut, beyond, IsWithin, Packets, packets_of}
+use Rattle.node_stepper.specs.Packets.{most_packets}
 use Rattle.node_words.specs.declared.errors.NodeError.{NodeError}
 use Rattle.node_words.specs.declared.errors.NodeError.TheVariants as error
 use Rattle.node_words.specs.Constructions.{Words}
@@ -47,7 +48,7 @@ module _ {Reader Plan Premise : Type 0} (words : Words Reader Plan Premise) wher
 
   -- the packets that follow
   abbrev pub packets_for : HeaderOf Plan → List ℕ → Packets
-  packets_for h bytes = packets_of (words.machine h.plan).nodes 1000000 0 bytes
+  packets_for h bytes = packets_of (words.machine h.plan).nodes most_packets 0 bytes
 
   -- the node's cells: at the start, and after each whole packet
   abbrev pub cells_for : HeaderOf Plan → Packets → List ℕ

@@ -5,6 +5,7 @@ use Rattle.construction.specs.Runs.{is_in}
 use Rattle.machines.specs.Machines.{Machine, IsState, IsToleratedBy, IsLocked}
 use Rattle.node_stepper.specs.Bytes.{AreBytes, AllFit}
 use Rattle.node_stepper.specs.NodeRuns.{IsCorrect}
+use Rattle.node_stepper.specs.Packets.{most_packets}
 use Rattle.node_words.specs.Constructions.{Words}
 use Rattle.node_words.specs.NodeAnswers.{node_outcome}
 use Rattle.node_words.specs.Calls.{whole, header_of, cell_heard}
@@ -60,6 +61,6 @@ module _ {Reader Plan Premise : Type 0} (words : Words Reader Plan Premise) (lin
       → AreOneMachine words Accepted m plans → (faulty meanwhile : List ℕ)
       (node after : ℕ) → AreFaultyMeanwhile node faulty meanwhile → IsCorrect m faulty node
       → (starts : ℕ → State) (sent : ℕ → ℕ → ℕ → List ℕ) (begins : ℕ → ℕ) (rounds : ℕ)
-      → ((v : ℕ) → begins v + (after + rounds) ≤ 1000000)
+      → ((v : ℕ) → begins v + (after + rounds) ≤ most_packets)
       → ((v : ℕ) → IsCorrect m faulty v → IsState m v (starts v))
       → InputsResume m plans faulty meanwhile node after starts sent begins rounds

@@ -32,7 +32,7 @@ use Rattle.machine_runner.proofs.Firsts.{none_inside, none_hit, era_some, end_wi
 use Rattle.machine_runner.proofs.Hits.{hit_has, put_has}
 use Rattle.machine_runner.proofs.Places.{placed}
 use Rattle.promises.proofs.Heard.{heard_long, heard_is}
-use Rattle.node_stepper.specs.Packets.{whole}
+use Rattle.node_stepper.specs.Packets.{whole, most_packets}
 use Rattle.plan_machine.specs.PlanNodes.{fields_of, heard_of, heard_in, state_after, state_cell}
 use Rattle.plan_machine.specs.PlanNodes.{states_of}
 use Rattle.node_stepper.specs.Laws.{AreFull, PacketsReadBack}
@@ -174,7 +174,7 @@ packets_are_read back plan s is j among v lt =
     length-map-range_with_len (round_packet plan s v) first count in
     let some = era_some s is.whole j among in
     let within = end_within s is.whole j (end - 1) among (omega (arith, some)) in
-    back (plan_nodes plan) (era_packets plan s v j) 1000000 0 (omega (arith, lt))
+    back (plan_nodes plan) (era_packets plan s v j) most_packets 0 (omega (arith, lt))
     (are_full plan s v count first)
     (let few = is.whole.formed.few in omega (arith, long, within, few))
     ∙ ap (λ n. record { cells = era_packets plan s v j; ending = whole n }) (omega (arith, long))

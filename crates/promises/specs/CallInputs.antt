@@ -17,6 +17,7 @@ use Rattle.outcomes.specs.NodeAnswers.{node_outcome}
 use Rattle.outcomes.specs.PlanWords.{plan_words}
 use Rattle.promises.specs.CallWindows.{NameThePlan, CallsConnect}
 use Rattle.promises.specs.Restarts.{calls_after, begins_after, AreFaultyMeanwhile}
+use Rattle.node_stepper.specs.Packets.{most_packets}
 
 -- a header has a line for each level, three of the plan, and four of the node
 abbrev pub header_lines : Plan → ℕ
@@ -81,7 +82,7 @@ abbrev pub AnyInputsConnect : Type 0
 AnyInputsConnect = (plan : Plan) → IsAccepted plan → (versions : ℕ → ℕ)
     → AreVersions plan versions → (faulty : List ℕ) (starts : ℕ → State)
     (sent : ℕ → ℕ → ℕ → List ℕ) (begins : ℕ → ℕ) (rounds : ℕ)
-    → ((v : ℕ) → begins v + rounds ≤ 1000000)
+    → ((v : ℕ) → begins v + rounds ≤ most_packets)
     → ((v : ℕ) → IsCorrect plan faulty v → IsState plan v (starts v))
     → InputsConnect plan versions faulty starts sent begins rounds
 
@@ -90,7 +91,7 @@ abbrev pub AnyInputsLose : Type 0
 AnyInputsLose = (plan : Plan) → IsAccepted plan → (versions : ℕ → ℕ)
     → AreVersions plan versions → (faulty : List ℕ) (starts : ℕ → State)
     (sent : ℕ → ℕ → ℕ → List ℕ) (missed : (i v : ℕ) → List ℕ) (begins : ℕ → ℕ) (rounds : ℕ)
-    → ((v : ℕ) → begins v + rounds ≤ 1000000)
+    → ((v : ℕ) → begins v + rounds ≤ most_packets)
     → ((v : ℕ) → IsCorrect plan faulty v → IsState plan v (starts v))
     → ((i v : ℕ) → i < rounds → IsCorrect plan faulty v
     → AreMissed plan faulty v (missed i v))
@@ -102,7 +103,7 @@ AnyInputsRestart = (plan : Plan) → IsAccepted plan → (versions : ℕ → ℕ
     → AreVersions plan versions → (faulty meanwhile : List ℕ)
     (node after : ℕ) → AreFaultyMeanwhile node faulty meanwhile → (starts : ℕ → State)
     (sent : ℕ → ℕ → ℕ → List ℕ) (begins : ℕ → ℕ) (rounds : ℕ)
-    → ((v : ℕ) → begins v + (after + rounds) ≤ 1000000)
+    → ((v : ℕ) → begins v + (after + rounds) ≤ most_packets)
     → ((v : ℕ) → IsCorrect plan faulty v → IsState plan v (starts v))
     → InputsRestart plan versions faulty meanwhile node after starts sent begins rounds
 
@@ -112,7 +113,7 @@ AnyInputsResume = (plan : Plan) → IsAccepted plan → (versions : ℕ → ℕ)
     → AreVersions plan versions → (faulty meanwhile : List ℕ)
     (node after : ℕ) → AreFaultyMeanwhile node faulty meanwhile → IsCorrect plan faulty node
     → (starts : ℕ → State) (sent : ℕ → ℕ → ℕ → List ℕ) (begins : ℕ → ℕ) (rounds : ℕ)
-    → ((v : ℕ) → begins v + (after + rounds) ≤ 1000000)
+    → ((v : ℕ) → begins v + (after + rounds) ≤ most_packets)
     → ((v : ℕ) → IsCorrect plan faulty v → IsState plan v (starts v))
     → InputsResume plan versions faulty meanwhile node after starts sent begins rounds
 

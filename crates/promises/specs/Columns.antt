@@ -9,7 +9,7 @@ use Rattle.adversary_script.specs.Scripts.{Script}
 use Rattle.adversary_script.specs.Eras.{first_of_era, end_of_era}
 use Rattle.round_runner.specs.Laws.{IsReadFor}
 use Rattle.round_runner.specs.Played.{played_at, heard_at}
-use Rattle.node_stepper.specs.Packets.{packets_of, whole}
+use Rattle.node_stepper.specs.Packets.{packets_of, whole, most_packets}
 use Rattle.plan_machine.specs.PlanNodes.{fields_of, state_cell, node_text}
 use Rattle.node_stepper.specs.Laws.{packet_text}
 
@@ -45,7 +45,8 @@ NodesMakeColumns = (plan : Plan) (script : Script) → IsReadFor plan script
 abbrev pub EraPacketsAreRead : Type 0
 EraPacketsAreRead = (plan : Plan) (script : Script) → IsReadFor plan script
     → (j : ℕ) → j ≤ length script.eras → (v : ℕ) → v < plan_nodes plan
-    → packets_of (plan_nodes plan) 1000000 0 (flat_map packet_text (era_packets plan script v j))
+    → packets_of (plan_nodes plan) most_packets 0
+    (flat_map packet_text (era_packets plan script v j))
     ≡ record {
       cells = era_packets plan script v j;
       ending = whole (end_of_era script j - 1 - first_of_era script j);

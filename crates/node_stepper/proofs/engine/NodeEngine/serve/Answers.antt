@@ -4,6 +4,7 @@ use Rattle.node_stepper.proofs.Answering.{forgotten, first_cut, served_none, ser
 use Rattle.node_stepper.proofs.Answering.{served_cut, served_end, served_inside, served_fault}
 use Rattle.node_stepper.proofs.Answering.{served_beyond, served_full, served_lost}
 use Rattle.node_stepper.proofs.engine.NodeEngine.serve.Goals as goal
+use Rattle.node_stepper.specs.Packets.{most_packets}
 
 pub loop-packet-init : goal.loop-packet-init
 loop-packet-init g c = record {
@@ -59,14 +60,14 @@ loop-packet-preserved g c =
 
 pub returns-in-Ok-None-clause-served : goal.returns-in-Ok-None-clause-served
 returns-in-Ok-None-clause-served g c =
-    let full : c.loop-packet.packet ≡ 1000000 =
+    let full : c.loop-packet.packet ≡ most_packets =
     omega (arith, c.loop-packet-test.false, c.loop-packet.auto.packet-end) in
     let h = rw c.in-Ok-None.field-0-is at c.in-Ok-None.ensures.bytes in
     served_full g.M.Machine.machine _ _ _ _ _ _ _ _ c.loop-packet.invariant.so_far full h.1 h.0
 
 pub returns-in-Ok-Some-clause-served : goal.returns-in-Ok-Some-clause-served
 returns-in-Ok-Some-clause-served g c =
-    let full : c.loop-packet.packet ≡ 1000000 =
+    let full : c.loop-packet.packet ≡ most_packets =
     omega (arith, c.loop-packet-test.false, c.loop-packet.auto.packet-end) in
     let h = rw c.in-Ok-Some.field-0-is at c.in-Ok-Some.ensures.bytes in
     served_beyond g.M.Machine.machine _ _ _ _ _ _ _ _ c.loop-packet.invariant.so_far _ full h
