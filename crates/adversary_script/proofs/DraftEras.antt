@@ -17,8 +17,7 @@ use Rattle.adversary_script.specs.Scripts.{Era, Script, IsFormed, empty_script}
 use Rattle.adversary_script.specs.Seen.{era_seen, script_seen, faulty_or_none, IsOver}
 use Rattle.adversary_script.specs.FaultySteps.{last_era, last_first}
 use Rattle.adversary_script.specs.StartSteps.{started}
-use Rattle.adversary_script.proofs.FormedEras.{era_formed, start_formed}
-use Rattle.adversary_script.proofs.ReadScripts.{empty_is}
+use Rattle.adversary_script.proofs.FormedEras.{empty_formed, era_formed, start_formed}
 
 -- a draft that says nothing keeps what drafts keep
 pub nothing_kept : (shape : Shape) (nodes : ℕ) (faulty : Option FaultIds) (parts : Parts)
@@ -27,7 +26,7 @@ pub nothing_kept : (shape : Shape) (nodes : ℕ) (faulty : Option FaultIds) (par
     → IsFormed (script_seen shape (faulty_or_none nodes faulty) parts) × IsOver nodes faulty parts
 nothing_kept shape nodes faulty parts none says eras =
     let formed : IsFormed (script_seen shape (record { nodes = nodes; ids = [] }) parts) =
-    subst IsFormed (sym says) (empty_is nodes shape) in (
+    subst IsFormed (sym says) (empty_formed nodes shape) in (
       subst (λ f. IsFormed (script_seen shape (faulty_or_none nodes f) parts)) (sym none) formed,
       record {
         first = subst (λ f. IfSome f (λ set. set.nodes ≡ nodes)) (sym none) tt;

@@ -7,9 +7,11 @@ use Rattle.std.specs.List.{count_by, list_any}
 use Rattle.std.specs.List.Sorted.{IsStrictlyIncreasing}
 use Rattle.std.proofs.lemmas.List.{map-append, length-map, get_or_default, get_or-map}
 use Rattle.std.proofs.lemmas.Option.{slice_get-map, unwrap_or-slice_get, get_or_from_slice_get}
+use Rattle.std.proofs.lemmas.List.Kept.{AllPairs-from_increasing}
 use Rattle.std.proofs.lemmas.List.Sums.{sum_by-cons}
 use Rattle.std.proofs.Math.Seq.{map-set_same}
 use Rattle.sync_types.specs.FaultSets.{FaultIds, is_in}
+use Rattle.sync_types.proofs.RisingIds.{rising_push}
 use Rattle.state_codec.specs.Shapes.{Shape}
 use Rattle.adversary_script.specs.Scripts.{Era, AreInRange}
 use Rattle.adversary_script.specs.FaultySteps.{last_era}
@@ -51,24 +53,8 @@ most_last a (b ∷ xs) rises (suc k) d lt =
 -- and above the first
 pub above_first : (a : ℕ) (xs : List ℕ) (k : ℕ) → IsStrictlyIncreasing (a ∷ xs) → k < length xs
     → a < get_or xs k 0
-above_first a [] k rises lt = absurd (omega arith)
-above_first a (b ∷ xs) zero rises lt = rises 0 (omega arith)
-above_first a (b ∷ xs) (suc k) rises lt =
-    let next : a < b = rises 0 (omega arith) in
-    let rest = above_first b xs k (tail_rises a (b ∷ xs) rises) (omega arith) in
-    omega arith
-
--- numbers that rise, and after them one above the last
-pub rising_pushed : (a b : ℕ) (xs : List ℕ) → IsStrictlyIncreasing (a ∷ xs)
-    → get_or (a ∷ xs) (length xs) 0 < b → IsStrictlyIncreasing (a ∷ xs ++ b ∷ [])
-rising_pushed a b [] rises above zero lt = above
-rising_pushed a b [] rises above (suc k) lt = absurd (omega arith)
-rising_pushed a b (x ∷ xs) rises above zero lt = rises 0 (omega arith)
-rising_pushed a b (x ∷ xs) rises above (suc k) lt =
-    let next : suc (k + 1) ≡ suc k + 1 = omega arith in
-    let behind : get_or (x ∷ xs ++ b ∷ []) k 0 < get_or (x ∷ xs ++ b ∷ []) (k + 1) 0 =
-    rising_pushed x b xs (tail_rises a (x ∷ xs) rises) above k (omega arith) in
-    subst (λ m. get_or (x ∷ xs ++ b ∷ []) k 0 < get_or (a ∷ x ∷ xs ++ b ∷ []) m 0) next behind
+above_first a xs k rises lt =
+    AllPairs-from_increasing (a ∷ xs) rises 0 (suc k) 0 (omega arith) (omega arith)
 
 -- the first configurations of eras, and that of one more
 pub firsts_pushed : (eras : List Era) (era : Era)
@@ -77,11 +63,10 @@ pub firsts_pushed : (eras : List Era) (era : Era)
     → IsStrictlyIncreasing (0 ∷ map (λ (era : Era). era.first) (eras ++ era ∷ []))
 firsts_pushed eras era rises above =
     let size = length-map eras (λ (era : Era). era.first) in
-    let last : get_or (0 ∷ map (λ (era : Era). era.first) eras)
-    (length (map (λ (era : Era). era.first) eras)) 0 < era.first =
-    rw size (rw (last_is 0 eras) at above) in
+    let firsts : List ℕ = 0 ∷ map (λ (era : Era). era.first) eras in
+    let place : length firsts - 1 ≡ length eras = omega (arith, size) in
     rw (map-append (λ (era : Era). era.first) eras (era ∷ []))
-    (rising_pushed 0 era.first (map (λ (era : Era). era.first) eras) rises last)
+    (rising_push firsts era.first rises (λ some. rw (place, ← last_is 0 eras) above))
 
 -- one more start in the last era changes nothing else
 pub same_with_start : {Y : Type 0} (f : Era → Y) (eras : List Era) (era new : Era)

@@ -1,18 +1,36 @@
--- A script with one more era, or with one more start in its last one, is as well formed as before.
+-- The empty script is well formed, and one with one more era, or one more start in its last era, is
+-- as well formed as before.
 use Rattle.std.proofs.Common.{◌≡◌, ℕ, ◌-◌, ◌<◌, List, [], ◌∷◌, ◌++◌, length, Option, Some, None}
 use Rattle.std.proofs.Common.{refl, sym, subst, arith}
 use Rattle.std.specs.Prelude.{All}
 use Rattle.std.specs.List.Sorted.{IsStrictlyIncreasing}
 use Rattle.std.proofs.lemmas.List.{map-append, length-append, length-set}
-use Rattle.std.proofs.lemmas.List.Elements.{All-push, All-set}
+use Rattle.std.proofs.lemmas.List.Elements.{All-cons, All-push, All-set}
 use Rattle.std.proofs.lemmas.Option.{get_or_from_slice_get, slice_get_within}
-use Rattle.state_codec.specs.Shapes.{fields_at}
+use Rattle.state_codec.specs.Shapes.{Shape, fields_at}
 use Rattle.state_codec.specs.Ranges.{InRange}
 use Rattle.adversary_script.specs.declared.lies.Start.{Start}
-use Rattle.adversary_script.specs.Scripts.{Era, Script, faulty_sets, AreInRange, IsFormed}
+use Rattle.adversary_script.specs.Scripts.{Era, Script, empty_script, faulty_sets, AreInRange}
+use Rattle.adversary_script.specs.Scripts.{IsFormed}
 use Rattle.adversary_script.specs.FaultySteps.{last_era, last_first, with_era}
 use Rattle.adversary_script.specs.StartSteps.{started}
 use Rattle.adversary_script.proofs.EraLists.{firsts_pushed, same_with_start}
+
+pub empty_formed : (nodes : ℕ) (shape : Shape) → IsFormed (empty_script nodes shape)
+empty_formed nodes shape = record {
+  ids =
+      All-cons (All (λ id. id < nodes)) [] [] (λ k d lt. absurd (omega arith))
+      (λ k d lt. absurd (omega arith));
+  senders = λ k d lt. absurd (omega arith);
+  lies = λ k d lt. absurd (omega arith);
+  starts = λ k d lt. absurd (omega arith);
+  hits = λ k d lt. absurd (omega arith);
+  many = omega arith;
+  rising = λ k lt. absurd (omega arith);
+  few = omega arith;
+  order = omega arith;
+  shown = omega arith;
+}
 
 module _ (s : Script) (f : IsFormed s) where
   -- a property of all faulty sets, with one more

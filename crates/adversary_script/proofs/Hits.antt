@@ -1,19 +1,15 @@
 -- Where an era begins, nodes are put into the states of that era's start lines.
-use Rattle.std.proofs.Common.{◌≡◌, ℕ, zero, suc, ◌<◌, ◌≤◌, List, [], ◌∷◌, length, map, get_or, true}
-use Rattle.std.proofs.Common.{false, eqb, refl, inl, inr, arith}
+use Rattle.std.proofs.Common.{◌≡◌, ℕ, zero, suc, ◌<◌, ◌≤◌, List, [], ◌∷◌, length, map, get_or}
+use Rattle.std.proofs.Common.{false, eqb, refl, arith}
 use Rattle.std.specs.List.{find}
 use Rattle.std.specs.Option.{option_and_then}
 use Rattle.std.specs.List.Sorted.{IsStrictlyIncreasing}
-use Rattle.std.proofs.lemmas.Bool.{ne_eqb}
+use Rattle.std.proofs.lemmas.Bool.{eq-eqb, ne_eqb}
 use Rattle.std.proofs.lemmas.List.{length-map}
-use Rattle.std.proofs.lemmas.Bool.Decides.{eqb_tells}
 use Rattle.adversary_script.specs.Scripts.{Era, Script, firsts}
 use Rattle.adversary_script.specs.Eras.{first_of_era, starts_of_era}
 use Rattle.adversary_script.specs.Lookup.{start_in, hit_at}
 use Rattle.adversary_script.proofs.EraLists.{tail_rises, above_first}
-
-same_eqb : (a b : ℕ) → a ≡ b → eqb a b ≡ true
-same_eqb a b same = elim (eqb_tells a b) [ inl equal ↦ equal.0 | inr other ↦ absurd (other.1 same) ]
 
 -- among eras that rise, the one that begins with configuration t is the one that is found
 found : (before t : ℕ) (eras : List Era) (v i : ℕ)
@@ -22,7 +18,7 @@ found : (before t : ℕ) (eras : List Era) (v i : ℕ)
     → option_and_then (λ (era : Era). start_in era.starts v) (find (λ era. eqb era.first t) eras) ≡
     start_in (get_or (map (λ (era : Era). era.starts) eras) i []) v
 found before t [] v i rises lt is = absurd (omega arith)
-found before t (era ∷ eras) v zero rises lt is = rw (same_eqb era.first t is) refl
+found before t (era ∷ eras) v zero rises lt is = rw (eq-eqb era.first t is) refl
 found before t (era ∷ eras) v (suc i) rises lt is =
     let later : era.first < get_or (map (λ (era : Era). era.first) eras) i 0 = above_first era.first
     (map (λ (era : Era). era.first) eras) i

@@ -1,5 +1,4 @@
 pub mod Mapped
-pub mod OneEra
 pub mod RisingIds
 pub mod Taken
 pub mod WordBytes
@@ -13,6 +12,7 @@ pub mod FormedEras
 pub mod DraftEras
 pub mod LineByLine
 pub mod SoundLines
+pub mod Tested
 pub mod ReadScripts
 pub mod LiesInRange
 pub mod Hits
@@ -26,4 +26,5 @@ pub mod WrittenLies
 pub mod ScriptTexts
 pub mod SaidWords
 pub mod SaidLines
+pub mod KeptLines
 pub mod ReadWritable

@@ -4,25 +4,11 @@ use Rattle.std.proofs.Common.{true, false, ◌==◌, refl, sym, ap, ◌∙◌, a
 use Rattle.std.specs.List.{position_or_len, find}
 use Rattle.std.proofs.lemmas.Bool.{eqb-true}
 use Rattle.std.proofs.lemmas.List.{drop_more, length-drop, get_or_default, drop-drop, get_or-drop}
+use Rattle.std.proofs.lemmas.List.Sums.{passes_at_first}
 use Rattle.adversary_script.specs.declared.lies.Lie.{Lie}
 use Rattle.adversary_script.specs.Scripts.{Group}
 use Rattle.adversary_script.specs.Lookup.{speaks}
 use Rattle.adversary_script.specs.Links.{place_from, IsLinked}
-
--- the first that passes passes
-found_at : {X : Type 0} (p : X → Bool) (xs : List X) (d : X) → position_or_len p xs < length xs
-    → p (get_or xs (position_or_len p xs) d) ≡ true
-found_at p [] d lt = absurd (omega arith)
-found_at p (x ∷ xs) d lt = by (p x) refl (λ less. found_at p xs d less)
-  where
-    by : (b : Bool) → p x ≡ b
-        → (position_or_len p xs < length xs → p (get_or xs (position_or_len p xs) d) ≡ true)
-        → p (get_or (x ∷ xs) (position_or_len p (x ∷ xs)) d) ≡ true
-    by true test rest = let here : position_or_len p (x ∷ xs) ≡ 0 = rw test refl in rw here test
-    by false test rest =
-        let more : position_or_len p (x ∷ xs) ≡ suc (position_or_len p xs) =
-        rw test (omega arith) in
-        rw more (rest (omega arith))
 
 -- the place of a lie of u has one
 pub sender_at : (lies : List Lie) (u from : ℕ) (d : Lie) → place_from lies u from < length lies
@@ -31,7 +17,7 @@ sender_at lies u from d lt =
     let long = length-drop from lies in
     let found :
     ((get_or (drop from lies) (position_or_len (λ lie. lie.sender == u) (drop from lies))
-    d).sender == u) ≡ true = found_at (λ lie. lie.sender == u) (drop from lies) d
+    d).sender == u) ≡ true = passes_at_first (λ lie. lie.sender == u) (drop from lies) d
     (omega (arith, long)) in
     let is : (get_or (drop from lies) (position_or_len (λ lie. lie.sender == u) (drop from lies))
     d).sender ≡ u = eqb-true _ _ found in

@@ -23,7 +23,7 @@ position-map f p xs =
     ∙ ap (λ m. cond (ltb (position_or_len (λ x. p (f x)) xs) m)
     (Some (position_or_len (λ x. p (f x)) xs)) None) (length-map xs f)
 
-none_at : {X : Type 0} (p : X → Bool) (xs : List X) → position p xs ≡ None
+pub none_at : {X : Type 0} (p : X → Bool) (xs : List X) → position p xs ≡ None
     → length xs ≤ position_or_len p xs
 none_at p xs none = grind arith
 

@@ -3,14 +3,12 @@ use Rattle.std.proofs.Common.{◌≡◌, ℕ, zero, suc, ◌-◌, ◌<◌, List,
 use Rattle.std.proofs.Common.{slice_index, true, nat_lt, arith}
 use Rattle.std.proofs.lemmas.Bool.{ltb-true, and_parts}
 use Rattle.std.proofs.lemmas.List.{get_or-take, length-take-le}
+use Rattle.std.proofs.lemmas.List.Sums.{AllPass-from_list_all}
 use Rattle.adversary_script.specs.WordTests.{are_below, is_rising}
 
 pub id_below : (n : ℕ) (ids : List ℕ) (i d : ℕ) → are_below n ids ≡ true → i < length ids
     → get_or ids i d < n
-id_below n [] i d all lt = absurd (omega arith)
-id_below n (x ∷ xs) zero d all lt = ltb-true x n (and_parts (nat_lt x n) (are_below n xs) all).0
-id_below n (x ∷ xs) (suc i) d all lt =
-    id_below n xs i d (and_parts (nat_lt x n) (are_below n xs) all).1 (omega arith)
+id_below n ids i d all lt = ltb-true _ n (AllPass-from_list_all (λ id. nat_lt id n) ids all i d lt)
 
 pub rises_at : (ids : List ℕ) (i d : ℕ) → is_rising ids ≡ true → suc i < length ids
     → get_or ids i d < get_or ids (suc i) d

@@ -1,39 +1,42 @@
--- Each line keeps that a text can say what was said so far.
-use Rattle.std.proofs.Common.{◌≡◌, ℕ, ◌-◌, ◌<◌, ◌≤◌, Bool, true, false, List}
-use Rattle.std.proofs.Common.{[], ◌∷◌, ◌++◌, length, map, get_or, cond, nat_lt, Option, Some}
+-- A script that a text can say so far can still be said with what one more line says.
+use Rattle.std.proofs.Common.{◌≡◌, ℕ, ◌-◌, ◌<◌, ◌≤◌, true, false, List}
+use Rattle.std.proofs.Common.{[], ◌∷◌, ◌++◌, length, map, nat_lt, Option, Some}
 use Rattle.std.proofs.Common.{None, refl, sym, ap, subst, ◌∙◌, arith, inl, inr}
-use Rattle.std.specs.Prelude.{All, position}
+use Rattle.std.specs.Prelude.{All, ◌==◌}
 use Rattle.std.specs.Str.{bytes_eq}
-use Rattle.std.specs.List.{list_any, position_or_len}
+use Rattle.std.specs.List.{list_any}
 use Rattle.std.specs.List.Sorted.{IsStrictlyIncreasing}
-use Rattle.std.proofs.lemmas.Bool.{ltb-true, ltb-false}
-use Rattle.std.proofs.lemmas.Bool.{or_left, cases_lt, true≢false}
+use Rattle.std.proofs.lemmas.Bool.{ltb-true, eq-eqb, or_left, cases_lt, true≢false}
 use Rattle.std.proofs.lemmas.List.{map-append, length_push, get_or_push, get_or-map}
 use Rattle.std.proofs.lemmas.List.{get_or_append_left, length-map}
-use Rattle.std.proofs.lemmas.List.Elements.{All-nil, All-push, All-set, All-weaker}
+use Rattle.std.proofs.lemmas.List.Elements.{All-nil, All-push, All-replicate, All-set, All-weaker}
 use Rattle.std.proofs.lemmas.List.Folds.{list_any-append}
 use Rattle.std.proofs.lemmas.List.Sums.{AllPass-from_list_all, fails_before_first}
 use Rattle.std.proofs.lemmas.Slice.Eq.{bytes_eq-Decides}
 use Rattle.std.proofs.lemmas.Option.{get_or_from_slice_get, slice_get_within}
 use Rattle.sync_types.specs.FaultSets.{is_in}
+use Rattle.sync_types.proofs.RisingIds.{rising_push}
+use Rattle.state_codec.specs.Shapes.{Shape}
 use Rattle.adversary_script.specs.declared.lies.CommonStart.{CommonStart}
 use Rattle.adversary_script.specs.declared.lies.Lie.{Lie}
 use Rattle.adversary_script.specs.declared.lies.Start.{Start}
 use Rattle.adversary_script.specs.declared.lies.Who.{Who}
 use Rattle.adversary_script.specs.declared.lies.Who.TheVariants as who
-use Rattle.adversary_script.specs.Scripts.{Group, Era, Script, faulty_sets}
+use Rattle.adversary_script.specs.Scripts.{Group, Era, Script, empty_script, faulty_sets}
 use Rattle.adversary_script.specs.FaultySteps.{last_era, with_era}
 use Rattle.adversary_script.specs.StartSteps.{is_above, last_starts, started}
 use Rattle.adversary_script.specs.LieSteps.{group_at}
 use Rattle.adversary_script.specs.ScriptTexts.{group_in}
 use Rattle.adversary_script.specs.Writable.{IsKey, AreStarts, IsGroup, AreGroups, IsHeard}
 use Rattle.adversary_script.specs.Writable.{IsLie}
-use Rattle.adversary_script.proofs.EraLists.{rising_pushed, same_with_start}
+use Rattle.adversary_script.proofs.Mapped.{none_at}
+use Rattle.adversary_script.proofs.EraLists.{same_with_start}
 
 -- what a text says of a script, beside that it is well formed and for its counter
 pub record IsSaid (s : Script) : Type 0 where
   pub oldest : 1 ≤ s.version
   pub newest : s.version ≤ 2
+  pub eras : s.version ≡ 1 → s.eras ≡ []
   pub key : IsKey s.key
   pub starts : AreStarts s.nodes s.starts
   pub hits : All (λ era. AreStarts s.nodes era.starts) s.eras
@@ -41,29 +44,48 @@ pub record IsSaid (s : Script) : Type 0 where
   pub many : length s.lies ≤ 256
   pub lies : All (IsLie s.nodes s.groups (faulty_sets s)) s.lies
 
--- ---- one more start
-
-pub no_starts : (n : ℕ) → AreStarts n []
+no_starts : (n : ℕ) → AreStarts n []
 no_starts n = record {
   rising = λ k lt. absurd (omega arith);
   below = All-nil (λ (start : Start). start.node < n);
 }
 
+pub empty_said : (nodes : ℕ) (shape : Shape) → IsSaid (empty_script nodes shape)
+empty_said nodes shape = record {
+  oldest = omega arith;
+  newest = omega arith;
+  eras = λ _. refl;
+  key = record {
+    size = refl;
+    bytes = All-replicate (λ byte. byte < 256) 32 0 (omega arith);
+  };
+  starts = no_starts nodes;
+  hits = All-nil (λ (era : Era). AreStarts nodes era.starts);
+  groups = record {
+    many = omega arith;
+    each = All-nil (IsGroup nodes);
+    apart = λ i j lt. absurd (omega arith);
+  };
+  many = omega arith;
+  lies = All-nil (IsLie nodes [] ([] ∷ []));
+}
+
+-- ---- one more start
+
 starts_rise : (starts : List Start) (x : Start) → is_above starts x.node ≡ true
     → IsStrictlyIncreasing (map (λ (start : Start). start.node) starts)
     → IsStrictlyIncreasing (map (λ (start : Start). start.node) (starts ++ x ∷ []))
-starts_rise [] x above rises = λ k lt. absurd (omega arith)
-starts_rise (y ∷ ys) x above rises =
-    let nodes = map (λ (start : Start). start.node) ys in
-    let last = AllPass-from_list_all (λ (start : Start). nat_lt start.node x.node) (y ∷ ys) above
-    (length ys) y (omega arith) in
-    let same : get_or (y.node ∷ nodes) (length ys) 0 ≡ (get_or (y ∷ ys) (length ys) y).node =
-    get_or-map (λ (start : Start). start.node) (y ∷ ys) (length ys) y 0 (omega arith) in
-    let under : get_or (y.node ∷ nodes) (length nodes) 0 < x.node =
-    rw length-map (omega (arith, same, ltb-true _ x.node last)) in
-    subst (λ xs. IsStrictlyIncreasing (y.node ∷ xs))
-    (sym (map-append (λ (start : Start). start.node) ys (x ∷ [])))
-    (rising_pushed y.node x.node nodes rises under)
+starts_rise starts x above rises =
+    let nodes = map (λ (start : Start). start.node) starts in
+    let last = length nodes - 1 in
+    let size = length-map starts (λ (start : Start). start.node) in
+    subst IsStrictlyIncreasing (sym (map-append (λ (start : Start). start.node) starts (x ∷ [])))
+    (rising_push nodes x.node rises (λ some.
+    let inside : last < length starts = omega (arith, size, some) in
+    let under = AllPass-from_list_all (λ (start : Start). nat_lt start.node x.node) starts above
+    last x inside in
+    let same = get_or-map (λ (start : Start). start.node) starts last x 0 inside in
+    omega (arith, same, ltb-true _ x.node under)))
 
 more_starts : (n : ℕ) (starts : List Start) (x : Start) → AreStarts n starts
     → is_above starts x.node ≡ true → x.node < n → AreStarts n (starts ++ x ∷ [])
@@ -73,16 +95,6 @@ more_starts n starts x are above lt = record {
 }
 
 -- ---- one more group
-
-others : (p : Group → Bool) (groups : List Group) → position p groups ≡ None
-    → length groups ≤ position_or_len p groups
-others p groups none =
-    by_test (nat_lt (position_or_len p groups) (length groups)) refl none where
-      by_test : (b : Bool) → nat_lt (position_or_len p groups) (length groups) ≡ b
-          → cond b (Some (position_or_len p groups)) None ≡ None
-          → length groups ≤ position_or_len p groups
-      by_test true is found = absurd cc
-      by_test false is found = ltb-false (position_or_len p groups) (length groups) is
 
 module _ (n : ℕ) (groups : List Group) (are : AreGroups n groups) (group : Group)
     (room : length groups < 256) (is : IsGroup n group)
@@ -95,7 +107,7 @@ module _ (n : ℕ) (groups : List Group) (are : AreGroups n groups) (group : Gro
 
   other_name : (k : ℕ) → k < length groups → group.name ≡ (group_in groups k).name → ⊥
   other_name k lt same =
-      let past = others (λ (g : Group). bytes_eq group.name g.name) groups new in
+      let past = none_at (λ (g : Group). bytes_eq group.name g.name) groups new in
       let fails = fails_before_first (λ (g : Group). bytes_eq group.name g.name) groups k none
       (omega (arith, past, lt)) in
       true≢false (sym ((bytes_eq-Decides group.name (group_in groups k).name).1 same) ∙ fails)
@@ -146,10 +158,13 @@ module _ (n : ℕ) (groups : List Group) (are : AreGroups n groups) (group : Gro
 
 -- ---- scripts that say more
 
+some_none : (era : Era) → Some era ≡ None → ⊥
+some_none era same = absurd cc
+
 module _ (s : Script) (h : IsSaid s) where
   -- with another version, key, common start or other rounds
-  pub with_others : (version : ℕ) (key : List ℕ) (common : CommonStart) (rounds first last : ℕ)
-      → 1 ≤ version → version ≤ 2 → IsKey key
+  pub others_said : (version : ℕ) (key : List ℕ) (common : CommonStart) (rounds first last : ℕ)
+      → 1 ≤ version → version ≤ 2 → (version ≡ 1 → s.eras ≡ []) → IsKey key
       → IsSaid (record s {
         version = version;
         key = key;
@@ -158,9 +173,10 @@ module _ (s : Script) (h : IsSaid s) where
         first = first;
         last = last;
       })
-  with_others version key common rounds first last some few is = record {
+  others_said version key common rounds first last some few eras is = record {
     oldest = some;
     newest = few;
+    eras = eras;
     key = is;
     starts = h.starts;
     hits = h.hits;
@@ -170,10 +186,11 @@ module _ (s : Script) (h : IsSaid s) where
   }
 
   -- with other faulty nodes at first, as long as there are no lies
-  pub with_faulty : (ids : List ℕ) → s.lies ≡ [] → IsSaid (record s { faulty = ids })
-  with_faulty ids none = record {
+  pub faulty_said : (ids : List ℕ) → s.lies ≡ [] → IsSaid (record s { faulty = ids })
+  faulty_said ids none = record {
     oldest = h.oldest;
     newest = h.newest;
+    eras = h.eras;
     key = h.key;
     starts = h.starts;
     hits = h.hits;
@@ -200,15 +217,17 @@ module _ (s : Script) (h : IsSaid s) where
         what = is.what;
       }) s.lies h.lies
 
-  -- with one more era
-  pub with_era_said : (first : ℕ) (ids : List ℕ) → IsSaid (with_era s first ids)
-  with_era_said first ids =
+  -- with one more era, if the version has them
+  pub era_said : (first : ℕ) (ids : List ℕ) → (s.version == 1) ≡ false
+      → IsSaid (with_era s first ids)
+  era_said first ids later =
       let era : Era = record { first = first; faulty = ids; starts = [] } in
       let sets : faulty_sets (with_era s first ids) ≡ faulty_sets s ++ ids ∷ [] =
       ap (λ xs. s.faulty ∷ xs) (map-append (λ (era : Era). era.faulty) s.eras (era ∷ [])) in
       record {
         oldest = h.oldest;
         newest = h.newest;
+        eras = λ one. absurd (true≢false (sym (eq-eqb s.version 1 one) ∙ later));
         key = h.key;
         starts = h.starts;
         hits = All-push (λ (era : Era). AreStarts s.nodes era.starts) s.eras era h.hits
@@ -222,14 +241,15 @@ module _ (s : Script) (h : IsSaid s) where
       }
 
   -- with one more start
-  pub started_said : (found : Option Era) (start : Start) → last_era s.eras ≡ found
+  pub start_said : (found : Option Era) (start : Start) → last_era s.eras ≡ found
       → is_above (last_starts s) start.node ≡ true → start.node < s.nodes
       → IsSaid (started s found start)
-  started_said None start last above lt =
+  start_said None start last above lt =
       let over : is_above s.starts start.node ≡ true = rw last at above in
       record {
         oldest = h.oldest;
         newest = h.newest;
+        eras = h.eras;
         key = h.key;
         starts = more_starts s.nodes s.starts start h.starts over lt;
         hits = h.hits;
@@ -237,7 +257,7 @@ module _ (s : Script) (h : IsSaid s) where
         many = h.many;
         lies = h.lies;
       }
-  started_said (Some era) start last above lt =
+  start_said (Some era) start last above lt =
       let new : Era = record era { starts = era.starts ++ start ∷ [] } in
       let place = length s.eras - 1 in
       let over : is_above era.starts start.node ≡ true = rw last at above in
@@ -249,6 +269,7 @@ module _ (s : Script) (h : IsSaid s) where
       record {
         oldest = h.oldest;
         newest = h.newest;
+        eras = λ one. absurd (some_none era (sym last ∙ ap last_era (h.eras one)));
         key = h.key;
         starts = h.starts;
         hits = All-set (λ (era : Era). AreStarts s.nodes era.starts) s.eras place new
@@ -260,12 +281,13 @@ module _ (s : Script) (h : IsSaid s) where
       }
 
   -- with one more group
-  pub with_group_said : (group : Group) → length s.groups < 256 → IsGroup s.nodes group
+  pub group_said : (group : Group) → length s.groups < 256 → IsGroup s.nodes group
       → group_at s.groups group.name ≡ None
       → IsSaid (record s { groups = s.groups ++ group ∷ [] })
-  with_group_said group room is new = record {
+  group_said group room is new = record {
     oldest = h.oldest;
     newest = h.newest;
+    eras = h.eras;
     key = h.key;
     starts = h.starts;
     hits = h.hits;
@@ -283,12 +305,13 @@ module _ (s : Script) (h : IsSaid s) where
   }
 
   -- with one more lie
-  pub with_lie_said : (lie : Lie) → length s.lies < 256
+  pub lie_said : (lie : Lie) → length s.lies < 256
       → IsLie s.nodes s.groups (faulty_sets s) lie
       → IsSaid (record s { lies = s.lies ++ lie ∷ [] })
-  with_lie_said lie room is = record {
+  lie_said lie room is = record {
     oldest = h.oldest;
     newest = h.newest;
+    eras = h.eras;
     key = h.key;
     starts = h.starts;
     hits = h.hits;

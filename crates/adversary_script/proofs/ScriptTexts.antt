@@ -8,6 +8,7 @@ use Rattle.std.proofs.lemmas.Bool.{le-ltb, cases_lt}
 use Rattle.std.proofs.lemmas.List.{append-nil, length-map, get_or-map}
 use Rattle.std.proofs.lemmas.List.Elements.{All-head}
 use Rattle.texts.specs.Lines.{lines_of}
+use Rattle.texts.proofs.NumberLines.{number_plain, number_short, number_read}
 use Rattle.state_codec.specs.Shapes.{Shape, IsShape, IsFields, fields_at, bytes_in}
 use Rattle.state_codec.proofs.Lows.{fields_limited}
 use Rattle.adversary_script.specs.declared.kinds.Kind.{Kind}
@@ -25,7 +26,6 @@ use Rattle.adversary_script.specs.ScriptTexts.{lies_lines, last_lines, script_li
 use Rattle.adversary_script.specs.Writable.{FitsLines, AreStarts, IsWritableFor}
 use Rattle.adversary_script.specs.ScriptLaws.{ScriptTextIsRead, ScriptTextIsWhole}
 use Rattle.adversary_script.proofs.EraLists.{last_is}
-use Rattle.adversary_script.proofs.WrittenWords.{number_plain, number_short, number_read}
 use Rattle.adversary_script.proofs.ReadOn.{read_on, End, IsLineOf, line_counts, lead_then, lead_end}
 use Rattle.adversary_script.proofs.ReadOn.{lead_line, at}
 use Rattle.adversary_script.proofs.ReadOn.{end_here, GoesTo, goes_then, goes_end}

@@ -10,6 +10,8 @@ use Rattle.std.proofs.lemmas.Bool.{lt-leb, le-ltb}
 use Rattle.std.proofs.lemmas.List.{append-nil, length-append, length_push, get_or_at}
 use Rattle.std.proofs.lemmas.List.{set_at}
 use Rattle.std.proofs.lemmas.Option.{slice_get-get_or}
+use Rattle.texts.proofs.NumberLines.{number_plain, number_short, number_read, numbers_plain}
+use Rattle.texts.proofs.NumberLines.{all_read}
 use Rattle.state_codec.specs.Shapes.{Shape, IsFields, fields_at, bytes_in}
 use Rattle.sync_types.proofs.RisingIds.{count_below}
 use Rattle.adversary_script.specs.declared.kinds.Kind.{Kind}
@@ -24,9 +26,7 @@ use Rattle.adversary_script.specs.ScriptPart.{IsTolerated}
 use Rattle.adversary_script.specs.ScriptTexts.{start_line, era_line, era_lines}
 use Rattle.adversary_script.specs.Writable.{AreStarts}
 use Rattle.adversary_script.proofs.EraLists.{last_is, tail_rises}
-use Rattle.adversary_script.proofs.WrittenWords.{number_plain, number_short, number_read}
-use Rattle.adversary_script.proofs.WrittenWords.{numbers_plain, numbers_read, ids_small, ids_short}
-use Rattle.adversary_script.proofs.WrittenWords.{ids_below, ids_rise}
+use Rattle.adversary_script.proofs.WrittenWords.{ids_small, ids_short, ids_below, ids_rise}
 use Rattle.adversary_script.proofs.ReadOn.{IsLineOf, line_counts, lead_none, lead_line, at, GoesTo}
 use Rattle.adversary_script.proofs.ReadOn.{goes_then}
 use Rattle.adversary_script.proofs.WrittenHead.{IsStarted}
@@ -130,7 +130,7 @@ module _ (n f : ℕ) (shape : Shape) (few : n ≤ 256)
     words_are =
         let small = is.small in rw (
           number_read era.first (omega (arith, small)),
-          numbers_read era.faulty (ids_small n few era.faulty is.borne.ids),
+          all_read era.faulty (ids_small n few era.faulty is.borne.ids),
         ) refl
 
     module _ (s : Script) (nodes : s.nodes ≡ n) (same : s.shape ≡ shape) (version : s.version ≡ 2)

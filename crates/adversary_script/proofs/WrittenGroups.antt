@@ -9,6 +9,7 @@ use Rattle.std.proofs.lemmas.Bool.{lt-leb, lt-ltb, le-ltb, false_from_ne_true}
 use Rattle.std.proofs.lemmas.Slice.Eq.{bytes_eq-Decides}
 use Rattle.std.proofs.lemmas.List.{append-nil, length-append, get_or_at, get_or_append_left}
 use Rattle.std.proofs.lemmas.List.Sums.{position_or_len_is}
+use Rattle.texts.proofs.NumberLines.{numbers_plain, all_read}
 use Rattle.sync_types.proofs.RisingIds.{count_below}
 use Rattle.adversary_script.specs.declared.kinds.Kind.{Kind}
 use Rattle.adversary_script.specs.declared.kinds.Kind.TheVariants as kind
@@ -19,9 +20,8 @@ use Rattle.adversary_script.specs.LieSteps.{group_at}
 use Rattle.adversary_script.specs.Steps.{group_tested}
 use Rattle.adversary_script.specs.ScriptTexts.{group_line, group_in}
 use Rattle.adversary_script.specs.Writable.{IsGroup, AreGroups}
-use Rattle.adversary_script.proofs.WrittenWords.{numbers_plain, numbers_read, ids_small, ids_short}
-use Rattle.adversary_script.proofs.WrittenWords.{ids_below, ids_rise, name_plain}
-use Rattle.adversary_script.proofs.WrittenWords.{name_short}
+use Rattle.adversary_script.proofs.WrittenWords.{ids_small, ids_short, ids_below, ids_rise}
+use Rattle.adversary_script.proofs.WrittenWords.{name_plain, name_short}
 use Rattle.adversary_script.proofs.ReadOn.{IsLineOf, line_counts, lead_none, lead_line, at, GoesTo}
 use Rattle.adversary_script.proofs.ReadOn.{goes_then}
 use Rattle.adversary_script.proofs.WrittenStarts.{at_middle}
@@ -113,7 +113,7 @@ module _ (f : ℕ) (s : Script) (few : s.nodes ≤ 256) where
       lead = lead_line f last (with_groups done) (with_groups (done ++ group ∷ [])) kind.Group
           (group_line group) behind line_is may.group
           (ap (group_tested (with_groups done) group.name)
-          (numbers_read group.ids (ids_small s.nodes few group.ids is.below))
+          (all_read group.ids (ids_small s.nodes few group.ids is.below))
           ∙ group_passes (with_groups done) group.name group.ids is.some
           (lt-leb 256 (length done) room) (ids_below s.nodes group.ids is.below)
           (ids_rise group.ids is.rising) is.named is.other new) refl;

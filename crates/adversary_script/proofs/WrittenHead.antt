@@ -10,6 +10,7 @@ use Rattle.std.proofs.lemmas.Bool.{cases_lt, le-ltb}
 use Rattle.std.proofs.lemmas.Slice.Eq.{bytes_eq-Decides}
 use Rattle.std.proofs.lemmas.Fmt.{decimal_digit}
 use Rattle.hex.specs.Hex.{encode_lower}
+use Rattle.texts.proofs.NumberLines.{number_plain, number_short, numbers_plain, all_read}
 use Rattle.sync_types.proofs.RisingIds.{count_below}
 use Rattle.adversary_script.specs.declared.kinds.Kind.{Kind}
 use Rattle.adversary_script.specs.declared.kinds.Kind.TheVariants as kind
@@ -21,9 +22,8 @@ use Rattle.adversary_script.specs.FaultySteps.{faulty_tested}
 use Rattle.adversary_script.specs.Steps.{head_tested, with_key}
 use Rattle.adversary_script.specs.ScriptTexts.{version_line, faulty_line, seed_lines, common_line}
 use Rattle.adversary_script.specs.Writable.{IsKey}
-use Rattle.adversary_script.proofs.WrittenWords.{number_plain, number_short, numbers_plain}
-use Rattle.adversary_script.proofs.WrittenWords.{numbers_read, ids_small, ids_short, ids_below}
-use Rattle.adversary_script.proofs.WrittenWords.{ids_rise, key_long, key_plain, key_read}
+use Rattle.adversary_script.proofs.WrittenWords.{ids_small, ids_short, ids_below, ids_rise}
+use Rattle.adversary_script.proofs.WrittenWords.{key_long, key_plain, key_read}
 use Rattle.adversary_script.proofs.ReadOn.{Lead, IsLineOf, line_counts, lead_then, at}
 use Rattle.adversary_script.proofs.ReadOn.{lead_line, GoesTo}
 
@@ -95,7 +95,7 @@ module _ (f : ℕ) (s : Script) where
     faulty_leads borne =
         lead_line f (Some kind.Script) s (record s { faulty = ids }) kind.Faulty (faulty_line ids)
         (map decimal ids) faulty_is refl
-        (ap (faulty_tested f s) (numbers_read ids (ids_small s.nodes nodes ids below))
+        (ap (faulty_tested f s) (all_read ids (ids_small s.nodes nodes ids below))
         ∙ faulty_passes borne) refl
 
   -- ---- the key, and how nodes start

@@ -8,6 +8,7 @@ use Rattle.std.proofs.lemmas.Bool.{lt-leb, lt-ltb, le-ltb, and_from}
 use Rattle.std.proofs.lemmas.List.{append-nil, length-append}
 use Rattle.texts.specs.Numbers.{number_of}
 use Rattle.texts.proofs.Printed.{ArePlain, spaced_length}
+use Rattle.texts.proofs.NumberLines.{number_plain, number_short, number_read}
 use Rattle.state_codec.specs.Shapes.{Fields, IsFields, fields_at, bytes_in}
 use Rattle.state_codec.specs.Texts.{written_text}
 use Rattle.adversary_script.specs.declared.kinds.Kind.{Kind}
@@ -27,11 +28,9 @@ use Rattle.adversary_script.specs.Scripts.{Group, Script, faulty_sets, IsLying}
 use Rattle.adversary_script.specs.LieSteps.{who_of, what_of, lie_tested}
 use Rattle.adversary_script.specs.ScriptTexts.{group_in, hearers, saying, lie_line}
 use Rattle.adversary_script.specs.Writable.{IsGroup, AreGroups, IsHeard, IsSayable, IsLie}
-use Rattle.adversary_script.proofs.WrittenWords.{number_plain, number_short, number_read}
 use Rattle.adversary_script.proofs.WrittenWords.{number_is_not_all, id_short, name_plain}
-use Rattle.adversary_script.proofs.WrittenWords.{name_short}
-use Rattle.adversary_script.proofs.WrittenWords.{name_is_no_number, state_plain, state_short}
-use Rattle.adversary_script.proofs.WrittenWords.{state_read}
+use Rattle.adversary_script.proofs.WrittenWords.{name_short, name_is_no_number, state_plain}
+use Rattle.adversary_script.proofs.WrittenWords.{state_short, state_read}
 use Rattle.adversary_script.proofs.ReadOn.{IsLineOf, line_counts, lead_none, lead_line, at, GoesTo}
 use Rattle.adversary_script.proofs.ReadOn.{goes_then}
 use Rattle.adversary_script.proofs.WrittenStarts.{at_middle}

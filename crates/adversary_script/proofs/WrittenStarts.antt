@@ -7,6 +7,7 @@ use Rattle.std.specs.List.Sorted.{IsStrictlyIncreasing}
 use Rattle.std.proofs.lemmas.Bool.{lt-leb, lt-ltb, and_from}
 use Rattle.std.proofs.lemmas.List.{append-nil, length-append, get_or_at}
 use Rattle.std.proofs.lemmas.List.{get_or-map, length-map}
+use Rattle.texts.proofs.NumberLines.{number_plain, number_short, number_read}
 use Rattle.state_codec.specs.Shapes.{Shape, IsFields, fields_at, bytes_in}
 use Rattle.state_codec.specs.Ranges.{InRange}
 use Rattle.state_codec.specs.Texts.{written_text}
@@ -21,7 +22,6 @@ use Rattle.adversary_script.specs.LieSteps.{state_of_digits}
 use Rattle.adversary_script.specs.ScriptTexts.{start_line}
 use Rattle.adversary_script.specs.Writable.{AreStarts}
 use Rattle.adversary_script.proofs.EraLists.{tail_rises, above_first}
-use Rattle.adversary_script.proofs.WrittenWords.{number_plain, number_short, number_read}
 use Rattle.adversary_script.proofs.WrittenWords.{state_plain, state_short, state_read}
 use Rattle.adversary_script.proofs.ReadOn.{IsLineOf, line_counts, lead_none, lead_line, at, GoesTo}
 use Rattle.adversary_script.proofs.ReadOn.{goes_then}

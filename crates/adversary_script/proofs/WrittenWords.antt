@@ -21,47 +21,21 @@ use Rattle.hex.specs.Hex.{encode_lower, encode_with, lower_digits, decode_of}
 use Rattle.hex.proofs.HexLemmas.{length-encode_with, decode_of-encode_lower}
 use Rattle.texts.specs.Numbers.{number_of}
 use Rattle.texts.proofs.Numbers.{own}
-use Rattle.texts.proofs.NumberWords.{printed_is_read}
+use Rattle.texts.proofs.NumberLines.{AreShort, are_short}
 use Rattle.texts.proofs.LineWords.{all_weaker}
-use Rattle.texts.proofs.Printed.{IsPlain, ArePlain, spaced_length, decimal_is_plain}
+use Rattle.texts.proofs.Printed.{IsPlain, spaced_length}
 use Rattle.sync_types.specs.States.{State}
 use Rattle.state_codec.specs.Shapes.{Fields, IsFields, bytes_in}
 use Rattle.state_codec.specs.Ranges.{InRange}
 use Rattle.state_codec.specs.Texts.{is_lower_digit, written_text, read_text}
 use Rattle.state_codec.proofs.Digits.{text_is_taken, text_reads_back}
 use Rattle.adversary_script.specs.WordTests.{is_letter, is_name, are_below, is_rising}
-use Rattle.texts.specs.Shapes.{all_numbers}
 use Rattle.adversary_script.specs.LieSteps.{state_of_digits}
 use Rattle.adversary_script.specs.Steps.{decoded_bytes, key_of_digits}
 use Rattle.adversary_script.specs.Writable.{IsKey}
 use Rattle.adversary_script.proofs.EraLists.{tail_rises}
 
 -- ---- numbers
-
--- a number of at most 15 digits
-pub number_plain : (n : ℕ) → n < 10 ^ 15 → IsPlain (decimal n)
-number_plain n lt = decimal_is_plain n (omega arith)
-
-pub number_short : (n : ℕ) → n < 10 ^ 15 → length (decimal n) ≤ 15
-number_short n lt = length-decimal-le 15 n (omega arith) lt (omega arith)
-
-pub number_read : (n : ℕ) → n < 10 ^ 15 → number_of (decimal n) ≡ Some n
-number_read n lt = printed_is_read n lt
-
-pub numbers_plain : (ns : List ℕ) → All (λ n. n < 10 ^ 15) ns → ArePlain (map decimal ns)
-numbers_plain [] small = tt
-numbers_plain (n ∷ ns) small = (
-  number_plain n (All-head (λ n. n < 10 ^ 15) n ns small),
-  numbers_plain ns (All-tail (λ n. n < 10 ^ 15) n ns small),
-)
-
-pub numbers_read : (ns : List ℕ) → All (λ n. n < 10 ^ 15) ns → all_numbers (map decimal ns)
-    ≡ Some ns
-numbers_read [] small = refl
-numbers_read (n ∷ ns) small = rw (
-  number_read n (All-head (λ n. n < 10 ^ 15) n ns small),
-  numbers_read ns (All-tail (λ n. n < 10 ^ 15) n ns small),
-) refl
 
 -- a number is no name
 digit_word : (n : ℕ) → n < 10 ^ 15 → list_all is_ascii_digit (decimal n) ≡ true
@@ -77,9 +51,10 @@ number_is_not_all n lt =
 -- ---- ids
 
 module _ (n : ℕ) (few : n ≤ 256) where
-  pub ids_small : (ids : List ℕ) → All (λ id. id < n) ids → All (λ id. id < 10 ^ 15) ids
+  pub ids_small : (ids : List ℕ) → All (λ id. id < n) ids → AreShort ids
   ids_small ids below =
-      All-weaker (λ id. id < n) (λ id. id < 10 ^ 15) (λ id lt. omega (arith, few, lt)) ids below
+      are_short ids
+      (All-weaker (λ id. id < n) (λ id. id < 10 ^ 15) (λ id lt. omega (arith, few, lt)) ids below)
 
   pub id_short : (id : ℕ) → id < n → length (decimal id) ≤ 3
   id_short id lt = length-decimal-le 3 id (omega arith) (omega arith) (omega arith)

@@ -1,7 +1,7 @@
 -- The lines that say which nodes are faulty, with their tests in their order.
-use Rattle.std.specs.Prelude.{ℕ, List, [], ◌∷◌, ◌++◌, ◌-◌, length, ◌==◌, ◌||◌, not, nat_le, nat_lt}
-use Rattle.std.specs.Prelude.{Option, Some, None, unwrap_or, Result, Ok, Err, codes, slice_get}
-use Rattle.std.specs.Prelude.{if◌then◌else◌}
+use Rattle.std.specs.Prelude.{ℕ, List, [], ◌∷◌, ◌++◌, ◌-◌, length, Bool, ◌==◌, ◌||◌, not, nat_le}
+use Rattle.std.specs.Prelude.{nat_lt, Option, Some, None, unwrap_or, Result, Ok, Err, codes}
+use Rattle.std.specs.Prelude.{slice_get, if◌then◌else◌}
 use Rattle.std.specs.Option.{option_map}
 use Rattle.std.specs.Str.{bytes_eq}
 use Rattle.texts.specs.Numbers.{number_of}
@@ -10,15 +10,18 @@ use Rattle.sync_types.specs.declared.answers.Rule.TheVariants.{Form, Limit, Node
 use Rattle.adversary_script.specs.WordTests.{are_below, is_rising}
 use Rattle.texts.specs.Shapes.{all_numbers}
 use Rattle.adversary_script.specs.Scripts.{Era, Script}
+use Rattle.adversary_script.specs.Tested.{tested}
 
 -- `faulty` and ids, of which there are f at most
+abbrev pub faulty_tests : (f : ℕ) → Script → List ℕ → List (Bool × Rule)
+faulty_tests f s ids =
+    (not (are_below s.nodes ids), Node)
+    ∷ (not (is_rising ids), Order)
+    ∷ (nat_lt f (length ids), Faults) ∷ []
+
 abbrev pub faulty_tested : (f : ℕ) → Script → Option (List ℕ) → Result Script Rule
 faulty_tested f s None = Err Form
-faulty_tested f s (Some ids) =
-    if not (are_below s.nodes ids) then Err Node
-    else if not (is_rising ids) then Err Order
-    else if nat_lt f (length ids) then Err Faults
-    else Ok (record s { faulty = ids })
+faulty_tested f s (Some ids) = tested (faulty_tests f s ids) (Ok (record s { faulty = ids }))
 
 -- the number of `A faulty`, and the words after it
 abbrev pub era_front : List (List ℕ) → Option (ℕ × List (List ℕ))
@@ -49,15 +52,18 @@ abbrev pub with_era : Script → (first : ℕ) → (ids : List ℕ) → Script
 with_era s first ids =
     record s { eras = s.eras ++ record { first = first; faulty = ids; starts = [] } ∷ [] }
 
+abbrev pub era_tests : (f : ℕ) → Script → (first : ℕ) → (ids : List ℕ) → List (Bool × Rule)
+era_tests f s first ids =
+    (s.version == 1, Form)
+    ∷ (nat_le 16 (length s.eras), Limit)
+    ∷ (not (are_below s.nodes ids), Node)
+    ∷ (nat_le first (last_first s) || not (is_rising ids), Order)
+    ∷ (nat_lt f (length ids), Faults) ∷ []
+
 abbrev pub era_tested : (f : ℕ) → Script → Option (ℕ × List ℕ) → Result Script Rule
 era_tested f s None = Err Form
 era_tested f s (Some said) =
-    if s.version == 1 then Err Form
-    else if nat_le 16 (length s.eras) then Err Limit
-    else if not (are_below s.nodes said.1) then Err Node
-    else if nat_le said.0 (last_first s) || not (is_rising said.1) then Err Order
-    else if nat_lt f (length said.1) then Err Faults
-    else Ok (with_era s said.0 said.1)
+    tested (era_tests f s said.0 said.1) (Ok (with_era s said.0 said.1))
 
 -- `era A faulty` and ids, by the words after the first
 abbrev pub era_step : (f : ℕ) → Script → List (List ℕ) → Result Script Rule

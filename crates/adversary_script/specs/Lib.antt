@@ -18,5 +18,6 @@ pub mod Scripts
 pub mod Seen
 pub mod StartSteps
 pub mod Steps
+pub mod Tested
 pub mod WordTests
 pub mod Writable

@@ -1,6 +1,6 @@
 -- The line of a lie, with its tests in their order.
-use Rattle.std.specs.Prelude.{ℕ, List, [], ◌∷◌, ◌++◌, length, ◌||◌, not, nat_le, nat_lt, Option}
-use Rattle.std.specs.Prelude.{Some, None, Result, Ok, Err, position, if◌then◌else◌}
+use Rattle.std.specs.Prelude.{ℕ, List, [], ◌∷◌, ◌++◌, length, Bool, ◌||◌, not, nat_le, nat_lt}
+use Rattle.std.specs.Prelude.{Option, Some, None, Result, Ok, Err, position, if◌then◌else◌}
 use Rattle.std.specs.Option.{option_map}
 use Rattle.std.specs.Str.{bytes_eq}
 use Rattle.sync_types.specs.declared.answers.Rule.{Rule}
@@ -17,6 +17,7 @@ use Rattle.adversary_script.specs.LieWords.{copy, digits, shift, LieSaid, lie_wo
 use Rattle.adversary_script.specs.WordTests.{are_ids, is_crossed}
 use Rattle.adversary_script.specs.Scripts as scripts
 use Rattle.adversary_script.specs.Scripts.{Script, faulty_sets}
+use Rattle.adversary_script.specs.Tested.{tested}
 
 -- the state of hex digits, if they are just those of a state with these fields
 abbrev pub state_of_digits : Fields → List ℕ → Option State
@@ -50,13 +51,17 @@ with_lie s l (Some what) (Some who) = Ok (record s {
       ∷ [];
 })
 
+abbrev pub lie_tests : Script → LieSaid → List (Bool × Rule)
+lie_tests s l =
+    (nat_le 256 (length s.lies), Limit)
+    ∷ (not (are_ids s.nodes (faulty_sets s) l), Node)
+    ∷ (nat_lt l.last l.first || is_crossed l.who, Range) ∷ []
+
 abbrev pub lie_tested : Script → Option LieSaid → Result Script Rule
 lie_tested s None = Err Form
 lie_tested s (Some l) =
-    if nat_le 256 (length s.lies) then Err Limit
-    else if not (are_ids s.nodes (faulty_sets s) l) then Err Node
-    else if nat_lt l.last l.first || is_crossed l.who then Err Range
-    else with_lie s l (what_of (fields_at s.shape l.sender) l.what) (who_of s.groups l.who)
+    tested (lie_tests s l)
+    (with_lie s l (what_of (fields_at s.shape l.sender) l.what) (who_of s.groups l.who))
 
 -- `lie A B U to WHO WHAT`, by the words after the first
 abbrev pub lie_step : Script → List (List ℕ) → Result Script Rule

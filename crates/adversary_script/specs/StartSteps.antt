@@ -1,7 +1,7 @@
 -- The line of a node's start, in era 0 or in the era whose line stands before, with its tests in
 -- their order.
 use Rattle.std.specs.Prelude.{ℕ, List, [], ◌∷◌, ◌++◌, ◌-◌, length, Bool, not, nat_le, nat_lt}
-use Rattle.std.specs.Prelude.{Option, Some, None, Result, Ok, Err, slice_set, if◌then◌else◌}
+use Rattle.std.specs.Prelude.{Option, Some, None, Result, Ok, Err, slice_set}
 use Rattle.std.specs.List.{list_all}
 use Rattle.texts.specs.Numbers.{number_of}
 use Rattle.sync_types.specs.declared.answers.Rule.{Rule}
@@ -10,6 +10,7 @@ use Rattle.sync_types.specs.States.{State}
 use Rattle.state_codec.specs.Shapes.{fields_at}
 use Rattle.adversary_script.specs.declared.lies.Start.{Start}
 use Rattle.adversary_script.specs.Scripts.{Era, Script}
+use Rattle.adversary_script.specs.Tested.{tested}
 use Rattle.adversary_script.specs.LieSteps.{state_of_digits}
 use Rattle.adversary_script.specs.FaultySteps.{last_era}
 
@@ -37,12 +38,13 @@ abbrev pub with_start : Script → ℕ → Option State → Result Script Rule
 with_start s v None = Err Hex
 with_start s v (Some state) = Ok (started s (last_era s.eras) (record { node = v; state = state }))
 
+abbrev pub start_tests : Script → ℕ → List (Bool × Rule)
+start_tests s v = (nat_le s.nodes v, Node) ∷ (not (is_above (last_starts s) v), Order) ∷ []
+
 abbrev pub start_tested : Script → Option ℕ → List ℕ → Result Script Rule
 start_tested s None word = Err Form
 start_tested s (Some v) word =
-    if nat_le s.nodes v then Err Node
-    else if not (is_above (last_starts s) v) then Err Order
-    else with_start s v (state_of_digits (fields_at s.shape v) word)
+    tested (start_tests s v) (with_start s v (state_of_digits (fields_at s.shape v) word))
 
 -- `start node V H`
 abbrev pub start_step : Script → Option (List ℕ × List ℕ) → Result Script Rule

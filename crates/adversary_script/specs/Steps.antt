@@ -1,6 +1,7 @@
 -- A script after each of its lines, with the line's tests in their order.
-use Rattle.std.specs.Prelude.{ℕ, ◌==◌, List, [], ◌∷◌, ◌++◌, length, ◌&&◌, ◌||◌, not, nat_le, nat_lt}
-use Rattle.std.specs.Prelude.{Option, Some, None, is_some, Result, Ok, Err, codes, if◌then◌else◌}
+use Rattle.std.specs.Prelude.{ℕ, ◌==◌, List, [], ◌∷◌, ◌++◌, length, Bool, ◌&&◌, ◌||◌, not, nat_le}
+use Rattle.std.specs.Prelude.{nat_lt, Option, Some, None, is_some, Result, Ok, Err, codes}
+use Rattle.std.specs.Prelude.{if◌then◌else◌}
 use Rattle.std.specs.List.{list_all}
 use Rattle.std.specs.Str.{bytes_eq}
 use Rattle.hex.specs.Hex.{decode_of}
@@ -13,6 +14,7 @@ use Rattle.adversary_script.specs.declared.lies.CommonStart.TheVariants as commo
 use Rattle.adversary_script.specs.WordTests.{only, both, is_name, are_below, is_rising}
 use Rattle.texts.specs.Shapes.{all_numbers}
 use Rattle.adversary_script.specs.Scripts.{Script}
+use Rattle.adversary_script.specs.Tested.{tested}
 use Rattle.adversary_script.specs.FaultySteps.{faulty_tested, last_first, era_step}
 use Rattle.adversary_script.specs.StartSteps.{start_step}
 use Rattle.adversary_script.specs.LieSteps.{group_at, lie_step}
@@ -49,16 +51,22 @@ abbrev pub seed_tested : Script → Option (List ℕ) → Result Script Rule
 seed_tested s None = Err rule.Form
 seed_tested s (Some word) = with_key s (key_of_digits word)
 
+abbrev pub group_tests : Script → (name ids : List ℕ) → List (Bool × Rule)
+group_tests s name ids =
+    (nat_le 256 (length s.groups), rule.Limit)
+    ∷ (not (are_below s.nodes ids), rule.Node)
+    ∷ (not (is_rising ids), rule.Order)
+    ∷ (
+      not (is_name name) || bytes_eq name (codes "all") || is_some (group_at s.groups name),
+      rule.Name,
+    ) ∷ []
+
 abbrev pub group_tested : Script → List ℕ → Option (List ℕ) → Result Script Rule
 group_tested s name None = Err rule.Form
 group_tested s name (Some []) = Err rule.Form
 group_tested s name (Some (id ∷ ids)) =
-    if nat_le 256 (length s.groups) then Err rule.Limit
-    else if not (are_below s.nodes (id ∷ ids)) then Err rule.Node
-    else if not (is_rising (id ∷ ids)) then Err rule.Order
-    else if not (is_name name) || bytes_eq name (codes "all") || is_some (group_at s.groups name)
-    then Err rule.Name
-    else Ok (record s { groups = s.groups ++ record { name = name; ids = id ∷ ids } ∷ [] })
+    tested (group_tests s name (id ∷ ids))
+    (Ok (record s { groups = s.groups ++ record { name = name; ids = id ∷ ids } ∷ [] }))
 
 -- `group NAME` and ids
 abbrev pub group_step : Script → List (List ℕ) → Result Script Rule
@@ -66,18 +74,21 @@ group_step s [] = Err rule.Form
 group_step s (name ∷ words) = group_tested s name (all_numbers words)
 
 -- `rounds R`; what is shown of them is said by the next line
+abbrev pub rounds_tests : Script → ℕ → List (Bool × Rule)
+rounds_tests s r = (nat_lt 1000000 r, rule.Limit) ∷ (nat_lt r (last_first s), rule.Range) ∷ []
+
 abbrev pub rounds_tested : Script → Option (List ℕ) → Result Script Rule
 rounds_tested s (Some (r ∷ [])) =
-    if nat_lt 1000000 r then Err rule.Limit
-    else if nat_lt r (last_first s) then Err rule.Range
-    else Ok (record s { rounds = r; first = 0; last = 0 })
+    tested (rounds_tests s r) (Ok (record s { rounds = r; first = 0; last = 0 }))
 rounds_tested s other = Err rule.Form
 
 -- `show A B`
+abbrev pub show_tests : Script → (a b : ℕ) → List (Bool × Rule)
+show_tests s a b = (nat_lt b a || nat_lt s.rounds b, rule.Range) ∷ []
+
 abbrev pub show_tested : Script → Option (List ℕ) → Result Script Rule
 show_tested s (Some (a ∷ b ∷ [])) =
-    if nat_lt b a || nat_lt s.rounds b then Err rule.Range
-    else Ok (record s { first = a; last = b })
+    tested (show_tests s a b) (Ok (record s { first = a; last = b }))
 show_tested s other = Err rule.Form
 
 -- a line of a kind, by the words after it; f ids at most may be faulty

@@ -1,7 +1,7 @@
 use sync_types::NodeState;
 
 /// How the nodes start that have no start line of their own.
-#[derive(Clone, Copy, PartialEq, Eq)]
+#[derive(Clone, Copy)]
 pub enum CommonStart {
     /// In the zero state.
     Zero,
@@ -10,7 +10,7 @@ pub enum CommonStart {
 }
 
 /// Who hears a lie.
-#[derive(Clone, Copy, PartialEq, Eq)]
+#[derive(Clone, Copy)]
 pub enum Who {
     /// Every node.
     All,
