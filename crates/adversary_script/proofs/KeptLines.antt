@@ -24,7 +24,7 @@ use Rattle.adversary_script.specs.Kinds.{may_follow}
 use Rattle.adversary_script.specs.LieWords.{LieSaid, lie_words}
 use Rattle.adversary_script.specs.WordTests.{only, both, is_name, is_rising}
 use Rattle.adversary_script.specs.WordTests.{who_below, what_below, is_crossed}
-use Rattle.adversary_script.specs.Scripts.{Script, faulty_sets, IsLying}
+use Rattle.adversary_script.specs.Scripts.{Script, faulty_sets, IsLying, most_rounds}
 use Rattle.adversary_script.specs.FaultySteps.{faulty_tests, faulty_tested, era_words, last_era}
 use Rattle.adversary_script.specs.FaultySteps.{last_first, era_tests, era_tested}
 use Rattle.adversary_script.specs.StartSteps.{is_above, last_starts, with_start, start_tests}
@@ -263,7 +263,7 @@ module _ (nodes faults : ℕ) (shape : Shape) (shaped : IsShape shape) (s : Scri
 
   -- ---- what is played
 
-  numbers_kept : (rounds first last : ℕ) → rounds ≤ 1000000 → first ≤ last → last ≤ rounds
+  numbers_kept : (rounds first last : ℕ) → rounds ≤ most_rounds → first ≤ last → last ≤ rounds
       → Kept (record s { rounds = rounds; first = first; last = last })
   numbers_kept rounds first last few order shown =
       let said = h.said in
@@ -276,7 +276,7 @@ module _ (nodes faults : ℕ) (shape : Shape) (shaped : IsShape shape) (s : Scri
   rounds_kept : (numbers : Option (List ℕ)) → IfOk (rounds_tested s numbers) Kept
   rounds_kept (Some (r ∷ [])) =
       tested_keeps Kept (rounds_tests s r) _ (λ passed.
-      numbers_kept r 0 0 (ltb-false 1000000 r passed.0) (omega arith) (omega arith))
+      numbers_kept r 0 0 (ltb-false most_rounds r passed.0) (omega arith) (omega arith))
   rounds_kept other = tt
 
   show_kept : (numbers : Option (List ℕ)) → IfOk (show_tested s numbers) Kept

@@ -15,6 +15,7 @@ use Rattle.adversary_script.specs.declared.kinds.Kind.{Kind}
 use Rattle.adversary_script.specs.declared.kinds.Kind.TheVariants as kind
 use Rattle.adversary_script.specs.declared.lies.Start.{Start}
 use Rattle.adversary_script.specs.Scripts.{Era, Script, empty_script, firsts, faulty_sets}
+use Rattle.adversary_script.specs.Scripts.{most_rounds}
 use Rattle.adversary_script.specs.FaultySteps.{last_first}
 use Rattle.adversary_script.specs.Steps.{rounds_tested, show_tested}
 use Rattle.adversary_script.specs.ScriptPart.{ScriptSoFar, nothing_read, part_for, alone}
@@ -37,7 +38,8 @@ use Rattle.adversary_script.proofs.WrittenLies.{IsLied, IsTold, lies_lead}
 
 -- ---- what is played, and shown of it
 
-rounds_passes : (s : Script) (r : ℕ) → nat_lt 1000000 r ≡ false → nat_lt r (last_first s) ≡ false
+rounds_passes : (s : Script) (r : ℕ) → nat_lt most_rounds r ≡ false → nat_lt r (last_first s)
+    ≡ false
     → rounds_tested s (Some (r ∷ [])) ≡ Ok (record s { rounds = r; first = 0; last = 0 })
 rounds_passes s r few reach = rw (few, reach) refl
 
@@ -45,7 +47,7 @@ show_passes : (s : Script) (a b : ℕ) → nat_lt b a ≡ false → nat_lt s.rou
     → show_tested s (Some (a ∷ b ∷ [])) ≡ Ok (record s { first = a; last = b })
 show_passes s a b order shown = rw (order, shown) refl
 
-module _ (f : ℕ) (s : Script) (rounds first last : ℕ) (few : rounds ≤ 1000000)
+module _ (f : ℕ) (s : Script) (rounds first last : ℕ) (few : rounds ≤ most_rounds)
     (reach : last_first s ≤ rounds) (order : first ≤ last) (shown : last ≤ rounds) where
   abbrev played : Script
   played = record s { rounds = rounds; first = 0; last = 0 }
@@ -84,7 +86,7 @@ module _ (f : ℕ) (s : Script) (rounds first last : ℕ) (few : rounds ≤ 1000
 
   rounds_numbers : rounds_tested s (Some (rounds ∷ [])) ≡ Ok played
   rounds_numbers =
-      rounds_passes s rounds (le-ltb 1000000 rounds few) (le-ltb rounds (last_first s) reach)
+      rounds_passes s rounds (le-ltb most_rounds rounds few) (le-ltb rounds (last_first s) reach)
 
   show_numbers : show_tested played (Some (first ∷ last ∷ [])) ≡ Ok over
   show_numbers =

@@ -21,7 +21,7 @@ use Rattle.adversary_script.specs.declared.lies.Start.{Start}
 use Rattle.adversary_script.specs.declared.lies.What.TheVariants as what
 use Rattle.adversary_script.specs.LieWords.{WhatSaid, noise, copy, digits, shift, LieSaid}
 use Rattle.adversary_script.specs.WordTests.{are_below, is_rising, who_below, what_below, are_ids}
-use Rattle.adversary_script.specs.Scripts.{Group, Era, Script, IsLying, IsFormed}
+use Rattle.adversary_script.specs.Scripts.{Group, Era, Script, IsLying, IsFormed, most_rounds}
 use Rattle.adversary_script.specs.FaultySteps.{last_era, last_first, with_era}
 use Rattle.adversary_script.specs.StartSteps.{started}
 use Rattle.adversary_script.specs.LieSteps.{state_of_digits, what_of}
@@ -212,7 +212,7 @@ module _ (nodes faults : ℕ) (shape : Shape) (s : Script) (h : IsSound nodes fa
       }
 
   -- with numbers in their order
-  pub numbers_sound : (rounds first last : ℕ) → rounds ≤ 1000000 → first ≤ last
+  pub numbers_sound : (rounds first last : ℕ) → rounds ≤ most_rounds → first ≤ last
       → last ≤ rounds → Sound (record s { rounds = rounds; first = first; last = last })
   numbers_sound rounds first last few order shown =
       let f = h.formed in

@@ -18,7 +18,7 @@ use Rattle.adversary_script.specs.declared.kinds.Kind.{Kind}
 use Rattle.adversary_script.specs.declared.kinds.Kind.TheVariants as kind
 use Rattle.adversary_script.specs.declared.lies.Start.{Start}
 use Rattle.adversary_script.specs.WordTests.{are_below, is_rising}
-use Rattle.adversary_script.specs.Scripts.{Era, Script, AreInRange}
+use Rattle.adversary_script.specs.Scripts.{Era, Script, AreInRange, most_rounds}
 use Rattle.adversary_script.specs.FaultySteps.{era_words, last_era, last_first, with_era}
 use Rattle.adversary_script.specs.FaultySteps.{era_tested}
 use Rattle.adversary_script.specs.StartSteps.{starts_in, started}
@@ -96,7 +96,7 @@ module _ (n f : ℕ) (shape : Shape) (few : n ≤ 256)
   -- what is asked of an era
   pub record IsEra (era : Era) : Type 0 where
     pub borne : IsTolerated n f era.faulty
-    pub small : era.first ≤ 1000000
+    pub small : era.first ≤ most_rounds
     pub starts : AreStarts n era.starts
     pub range : AreInRange shape era.starts
 

@@ -78,6 +78,10 @@ IsLying n fields (what.Shift d) = ⊤
 abbrev pub AreInRange : Shape → List Start → Type 0
 AreInRange shape starts = All (λ start. InRange (fields_at shape start.node) start.state) starts
 
+-- how many rounds a script has at most
+abbrev pub most_rounds : ℕ
+most_rounds = 1000000
+
 -- what holds of a script after each of its lines
 pub record IsFormed (s : Script) : Type 0 where
   pub ids : All (All (λ id. id < s.nodes)) (faulty_sets s)
@@ -87,7 +91,7 @@ pub record IsFormed (s : Script) : Type 0 where
   pub hits : All (λ era. AreInRange s.shape era.starts) s.eras
   pub many : length s.eras ≤ 16
   pub rising : IsStrictlyIncreasing (firsts s)
-  pub few : s.rounds ≤ 1000000
+  pub few : s.rounds ≤ most_rounds
   pub order : s.first ≤ s.last
   pub shown : s.last ≤ s.rounds
 

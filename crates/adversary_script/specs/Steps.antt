@@ -13,7 +13,7 @@ use Rattle.adversary_script.specs.declared.kinds.Kind.TheVariants as kind
 use Rattle.adversary_script.specs.declared.lies.CommonStart.TheVariants as common
 use Rattle.adversary_script.specs.WordTests.{only, both, is_name, are_below, is_rising}
 use Rattle.texts.specs.Shapes.{all_numbers}
-use Rattle.adversary_script.specs.Scripts.{Script}
+use Rattle.adversary_script.specs.Scripts.{Script, most_rounds}
 use Rattle.adversary_script.specs.Tested.{tested}
 use Rattle.adversary_script.specs.FaultySteps.{faulty_tested, last_first, era_step}
 use Rattle.adversary_script.specs.StartSteps.{start_step}
@@ -75,7 +75,7 @@ group_step s (name ∷ words) = group_tested s name (all_numbers words)
 
 -- `rounds R`; what is shown of them is said by the next line
 abbrev pub rounds_tests : Script → ℕ → List (Bool × Rule)
-rounds_tests s r = (nat_lt 1000000 r, rule.Limit) ∷ (nat_lt r (last_first s), rule.Range) ∷ []
+rounds_tests s r = (nat_lt most_rounds r, rule.Limit) ∷ (nat_lt r (last_first s), rule.Range) ∷ []
 
 abbrev pub rounds_tested : Script → Option (List ℕ) → Result Script Rule
 rounds_tested s (Some (r ∷ [])) =

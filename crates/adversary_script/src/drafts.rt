@@ -3,7 +3,7 @@ ghost use Rattle.std.specs.List.{list_any};
 ghost use Rattle.sync_types.specs.FaultSets.{is_in};
 ghost use Rattle.state_codec.specs.Shapes.{fields_at, shape_nodes};
 ghost use Rattle.state_codec.specs.Ranges.{InRange};
-ghost use Rattle.adversary_script.specs.Scripts.{IsLying, AreWithin, empty_script};
+ghost use Rattle.adversary_script.specs.Scripts.{IsLying, AreWithin, empty_script, most_rounds};
 ghost use Rattle.adversary_script.specs.Seen.{faulty_or_none};
 ghost use Rattle.adversary_script.specs.LieSteps.{group_at};
 ghost use Rattle.adversary_script.specs.FaultySteps.{last_era, last_first, with_era};
@@ -173,7 +173,7 @@ impl<'a> Draft<'a> {
 
     /// Says how many rounds are played. What is shown of them is still to be said.
     pub fn set_rounds(&mut self, rounds: u64)
-        requires { rounds ≤ 1000000 }
+        requires { rounds ≤ most_rounds }
         ensures { self.new ≡ record self.old { rounds = rounds; first = 0; last = 0 } }
     {
         self.parts.rounds = rounds;

@@ -3,6 +3,7 @@ ghost use Rattle.state_codec.specs.Shapes.{fields_at, bytes_in, shape_nodes};
 ghost use Rattle.state_codec.specs.Ranges.{InRange};
 ghost use Rattle.state_codec.specs.Reading.{read};
 ghost use Rattle.adversary_script.specs.Noise.{words_in};
+ghost use Rattle.adversary_script.specs.Scripts.{most_rounds};
 
 use state_codec::StateShape;
 use sync_types::NodeState;
@@ -16,7 +17,7 @@ pub struct Draw<'a> {
     pub stream: u64,
     pub turn: u64,
     ghost node: { v < shape_nodes shape.now },
-    ghost few: { turn ≤ 1000000 },
+    ghost few: { turn ≤ most_rounds },
 }
 
 impl Draw<'_> {

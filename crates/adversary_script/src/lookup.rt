@@ -1,7 +1,7 @@
 ghost use Rattle.std.specs.Prelude.{◌≡◌, ◌<◌, ◌≤◌, true, slice_get, IfSome};
 ghost use Rattle.std.specs.Option.{option_map};
 ghost use Rattle.state_codec.specs.Shapes.{fields_at};
-ghost use Rattle.adversary_script.specs.Scripts.{IsLying};
+ghost use Rattle.adversary_script.specs.Scripts.{IsLying, most_rounds};
 ghost use Rattle.sync_types.specs.FaultSets.{is_in};
 ghost use Rattle.adversary_script.specs.Eras.{faulty_at};
 ghost use Rattle.adversary_script.specs.Lookup.{in_group, hears, speaks, lie_for};
@@ -43,7 +43,7 @@ impl Script {
         requires { is_in (faulty_at self.now t) u ≡ true }
         ensures found { option_map (λ lie. lie.now) result ≡ lie_for self.now t u v }
         ensures sender { u < self.now.nodes }
-        ensures few { self.now.rounds ≤ 1000000 }
+        ensures few { self.now.rounds ≤ most_rounds }
         ensures what { IfSome result
             (λ lie. IsLying self.now.nodes (fields_at self.now.shape u) lie.now.what) }
     {

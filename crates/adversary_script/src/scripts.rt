@@ -1,5 +1,5 @@
 ghost use Rattle.std.specs.Prelude.{◌≡◌, ◌≤◌};
-ghost use Rattle.adversary_script.specs.Scripts.{IsScript};
+ghost use Rattle.adversary_script.specs.Scripts.{IsScript, most_rounds};
 
 use crate::links::Links;
 use crate::parts::Parts;
@@ -82,7 +82,7 @@ impl Script {
     /// How many rounds are played, at most 1,000,000. The configurations are 0 to that.
     pub fn rounds(&self) -> u64
         ensures value { result ≡ self.now.rounds }
-        ensures few { result ≤ 1000000 }
+        ensures few { result ≤ most_rounds }
         ensures script { IsScript self.now }
     {
         self.parts.rounds

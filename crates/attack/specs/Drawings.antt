@@ -9,6 +9,7 @@ use Rattle.attack.specs.Draws.{drawn}
 use Rattle.attack.specs.Attacks.{Attack}
 use Rattle.attack.specs.Kinds.{or_all, fresh}
 use Rattle.attack.specs.Changes.{changed}
+use Rattle.adversary_script.specs.Scripts.{most_rounds}
 
 -- A maker that draws: for so many nodes, faults and rounds, from a seed. So many candidates are
 -- drawn afresh, of these kinds in turn.
@@ -27,7 +28,7 @@ abbrev pub drawing_for : Machine → (seed runs : ℕ) → List Kind → Drawing
 drawing_for machine seed runs kinds = record {
   nodes = machine.nodes;
   faults = machine.faults;
-  rounds = min machine.bound 1000000;
+  rounds = min machine.bound most_rounds;
   seed = seed;
   fresh = min (runs / 16) 1000;
   kinds = or_all kinds;

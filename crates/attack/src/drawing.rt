@@ -1,6 +1,7 @@
 ghost use Rattle.std.specs.Prelude.{◌≡◌, min, IfOk};
 ghost use Rattle.attack.specs.Draws.{drawn};
 ghost use Rattle.attack.specs.Drawings.{drawing_for, turn, kind_at, afresh, made_by};
+ghost use Rattle.adversary_script.specs.Scripts.{most_rounds};
 
 use crate::candidates::Attack;
 use crate::changes::changed;
@@ -80,7 +81,7 @@ fn kind_at(kinds: &[Kind], index: u64) -> Kind
 fn scope_of<M: Machine>(machine: &M) -> Scope
     ensures nodes { result.nodes ≡ (M.machine machine.now).nodes }
     ensures faults { result.faults ≡ (M.machine machine.now).faults }
-    ensures rounds { result.rounds ≡ min (M.machine machine.now).bound 1000000 }
+    ensures rounds { result.rounds ≡ min (M.machine machine.now).bound most_rounds }
 {
     machine.facts();
     Scope {

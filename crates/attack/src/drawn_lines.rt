@@ -5,6 +5,7 @@ ghost use Rattle.attack.specs.Draws.{below};
 ghost use Rattle.attack.specs.DrawnLines.{drawn_more, drawn_span, whole_span, all_hear};
 ghost use Rattle.attack.specs.DrawnLines.{between, drawn_hearers, drawn_shift, drawn_say, lie_of};
 ghost use Rattle.attack.specs.DrawnLines.{drawn_lie};
+ghost use Rattle.adversary_script.specs.Scripts.{most_rounds};
 
 use crate::candidates::{LieLine, Say};
 use crate::draws::Lot;
@@ -19,7 +20,7 @@ pub struct Scope {
     ghost some: { 1 ≤ nodes },
     ghost few: { nodes ≤ 256 },
     ghost among: { faults ≤ nodes },
-    ghost played: { rounds ≤ 1000000 },
+    ghost played: { rounds ≤ most_rounds },
 }
 
 /// The rounds of a lie, the first and the last one.

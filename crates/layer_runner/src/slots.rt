@@ -1,5 +1,6 @@
 ghost use Rattle.std.specs.Prelude.{◌≡◌, ◌≤◌};
 ghost use Rattle.layer_runner.specs.SlotTexts.{lead_output, counts_at, may_end_at, ends_at};
+ghost use Rattle.adversary_script.specs.Scripts.{most_rounds};
 
 use adversary_script::Script;
 use counter_core::Overlay;
@@ -19,7 +20,7 @@ pub fn lead_output<O: Overlay, P: Play<O>>(play: &P) -> u64
 /// after the beginning of its era, and to its end in that era and within the rounds.
 fn counts(script: &Script, bound: u64, length: u64, t: u64) -> bool
     requires short { length ≤ 1000 }
-    requires few { t ≤ 1000000 }
+    requires few { t ≤ most_rounds }
     ensures { result ≡ counts_at bound script.now length t }
 {
     let era = script.era_of(t);

@@ -2,6 +2,7 @@ ghost use Rattle.std.specs.Prelude.{◌≡◌, ◌+◌, ◌%◌, ◌≤◌};
 ghost use Rattle.construction.specs.Runs.{is_in};
 ghost use Rattle.run_explanations.specs.Searching.{goes_on, stretched, begins_phase};
 ghost use Rattle.run_explanations.specs.Searching.{explained_in, explained_from};
+ghost use Rattle.adversary_script.specs.Scripts.{most_rounds};
 
 use crate::explanations::Explanation;
 use crate::seeing::Observation;
@@ -26,7 +27,7 @@ pub(crate) struct Window {
     pub leader: u32,
     /// The part that the first one shows.
     pub part: u64,
-    ghost early: { at ≤ 1000000 },
+    ghost early: { at ≤ most_rounds },
     ghost small: { part ≤ 261 },
 }
 
@@ -81,7 +82,7 @@ pub(crate) fn begins_phase(
     window: Window,
     x: u64,
 ) -> bool
-    requires { x ≤ 1000000 }
+    requires { x ≤ most_rounds }
     ensures { result ≡ begins_phase top.numbers.beat (is_in faulty.now.ids) last window.at
         window.part x }
 {
@@ -121,7 +122,7 @@ pub(crate) fn explained_from(
     c: u64,
     stretch: LeaderStreak,
 ) -> Option<Explanation>
-    requires early { c ≤ 1000000 }
+    requires early { c ≤ most_rounds }
     requires within { stretch.count ≤ c + 1 }
     ensures { result ≡ explained_from top.numbers.beat (is_in faulty.now.ids) last c stretch.count
         stretch.seen }
