@@ -1,24 +1,15 @@
 //! What pictures in SVG are made of: where columns and bands stand, what is drawn of what a node
-//! shows, the beginning, the ground and lines of the caption; and what reading their texts takes:
-//! words of lines, and why a text is not read.
+//! shows, the beginning, the ground and lines of the caption; what reading their texts takes: words
+//! of lines, and why a text is not read; and what all that is drawn has in common ([`Figure`]).
 //!
 //! Outputs that count keep the lead that their colour goes by, and no two different ones of a
 //! configuration have the same lead ([`laws`]).
 #![tactic(auto)]
 
-// As `?` after a part of a text that is written, but with no call of its own.
-macro_rules! written {
-    ($part:expr) => {
-        match $part {
-            Ok(()) => {}
-            Err(WriteFault) => return Err(WriteFault),
-        }
-    };
-}
-
 mod captions;
 mod errors;
 mod faces;
+mod figures;
 mod frames;
 mod fronts;
 mod hits;
@@ -32,6 +23,7 @@ mod squares;
 pub use captions::{put_colour_legend, put_number_caption, put_span};
 pub use errors::{ChartError, LineError, Wanted};
 pub use faces::{Face, face_of};
+pub use figures::Figure;
 pub use frames::{
     CellPosition, Frame, MOST_COLUMNS, band_height, band_top, bottom, configuration, digits_of,
     left, line_top, middle, spot_top, width,

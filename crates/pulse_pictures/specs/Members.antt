@@ -6,10 +6,8 @@ use Rattle.picture_parts.specs.declared.faces.Face.TheVariants as face
 use Rattle.picture_parts.specs.declared.frames.Frame.{Frame}
 use Rattle.picture_parts.specs.declared.frames.CellPosition.{CellPosition}
 use Rattle.picture_parts.specs.Frames.{band_top, configuration, left, spot_top, width}
-use Rattle.picture_parts.specs.Squares.{column_head, hover_front, node_label, rectangle_front}
-use Rattle.picture_parts.specs.Squares.{shown_at}
-use Rattle.trace_pictures.specs.Strips.{cover, edge, face_in, gold_part, ground, king_text, share}
-use Rattle.trace_pictures.specs.Strips.{value_text}
+use Rattle.picture_parts.specs.Squares.{column_head, hover_front, node_label, shown_at}
+use Rattle.trace_pictures.specs.Strips.{edge, face_in, gold_part, king_text, register_in, share}
 use Rattle.trace_pictures.specs.Traces.{turn_word}
 use Rattle.pulse_pictures.specs.declared.pulse_notes.Half.{Half}
 use Rattle.pulse_pictures.specs.declared.pulse_notes.Half.TheVariants as half
@@ -104,17 +102,11 @@ abbrev pub member_hover : CellPosition → (node : ℕ) → Member → List ℕ
 member_hover spot node member =
     hover_front spot node ++ (codes ":" ++ (member_words member ++ codes "</title>\n"))
 
--- the register
-abbrev pub member_square : CellPosition → Member → List ℕ
-member_square spot member =
-    rectangle_front spot
-    ++ (ground member.value member.held
-    ++ (cover spot member.held ++ value_text spot member.value))
-
 abbrev pub member_at : CellPosition → (node : ℕ) → Member → List ℕ
 member_at spot node member =
     member_hover spot node member
-    ++ (member_square spot member ++ (member_pulses spot member ++ codes "</g>\n"))
+    ++ (register_in spot member.value member.held
+    ++ (member_pulses spot member ++ codes "</g>\n"))
 
 -- a faulty node is hatched, whatever it holds
 abbrev pub member_cell : CellPosition → (node : ℕ) (faulty : Bool) → Member → List ℕ

@@ -17,6 +17,7 @@ use Rattle.pulse_pictures.specs.declared.pulse_notes.Member.{Member}
 use Rattle.pulse_pictures.specs.declared.pulse_notes.Told.{Told}
 use Rattle.pulse_pictures.specs.declared.pulse_notes.Told.TheVariants.{Shows, Holds}
 use Rattle.pulse_pictures.specs.declared.pulse_notes.PulseNote.{PulseNote}
+use Rattle.pulse_pictures.specs.declared.pulse_notes.PulseTrace.{PulseTrace}
 
 -- ---- instructions
 
@@ -110,5 +111,5 @@ pulse_front first note = concat (
 abbrev pub pulse_line : (first : ℕ) → PulseNote → List ℕ
 pulse_line first note = pulse_front first note ++ (told_words note.told ++ codes "\n")
 
-abbrev pub pulse_text : (first : ℕ) → List PulseNote → List ℕ
-pulse_text first notes = flat_map (pulse_line first) notes
+abbrev pub pulse_text : PulseTrace → List ℕ
+pulse_text trace = flat_map (pulse_line trace.frame.first) trace.notes.items

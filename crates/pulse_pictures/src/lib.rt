@@ -2,21 +2,11 @@
 //! line of cells for each node, and a strip for each group, with the kings' phases above it. In a
 //! strip a node of the group has its register, and below it what it knows of both halves' pulses.
 //!
-//! That the picture is the defined one of a trace is proved ([`put_pulse_picture`]), that its lines
-//! stand in their columns, lines and strips, and that just the kings' phases are there at which
-//! correct nodes stand ([`is_pulse_trace_laid`]). That all that `trace` writes is read, how wide
-//! columns are, and who is found hit, is not.
+//! That the picture is the defined one of a trace is proved ([`PulseTrace`] is a figure), that its
+//! lines stand in their columns, lines and strips, and that just the kings' phases are there at
+//! which correct nodes stand. That all that `trace` writes is read, how wide columns are, and who
+//! is found hit, is not.
 #![tactic(auto)]
-
-// As `?` after a part of a text that is written, but with no call of its own.
-macro_rules! written {
-    ($part:expr) => {
-        match $part {
-            Ok(()) => {}
-            Err(WriteFault) => return Err(WriteFault),
-        }
-    };
-}
 
 mod members;
 mod pulse_bars;
@@ -32,9 +22,6 @@ mod pulse_said;
 mod pulse_turns;
 mod stands_said;
 
-pub use pulse_laid::is_pulse_trace_laid;
 pub use pulse_layouts::pulse_trace_of;
 pub use pulse_notes::PulseTrace;
-pub use pulse_pictures::put_pulse_picture;
-pub use pulse_printing::put_pulse_trace;
 pub use pulse_reading::is_pulse_trace;

@@ -1,5 +1,5 @@
 -- The cells of a chart, in SVG.
-use Rattle.std.specs.Prelude.{ℕ, ◌+◌, ◌==◌, List, [], ◌++◌, if◌then◌else◌}
+use Rattle.std.specs.Prelude.{ℕ, ◌==◌, List, [], ◌++◌, if◌then◌else◌}
 use Rattle.run_pictures.specs.declared.charts.Cell.{Cell}
 use Rattle.picture_parts.specs.declared.frames.Frame.{Frame}
 use Rattle.picture_parts.specs.declared.frames.CellPosition.{CellPosition}

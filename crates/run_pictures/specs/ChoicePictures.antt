@@ -4,6 +4,7 @@
 use Rattle.std.specs.Prelude.{ℕ, ◌+◌, ◌-◌, ◌*◌, ◌/◌, max, length, List, [], ◌∷◌, ◌++◌, codes}
 use Rattle.std.specs.Prelude.{decimal}
 use Rattle.std.specs.List.{concat, flat_map}
+use Rattle.run_pictures.specs.declared.choices.Choice.{Choice}
 use Rattle.run_pictures.specs.declared.choices.Point.{Point}
 use Rattle.picture_parts.specs.Fronts.{picture_front, picture_ground}
 use Rattle.run_pictures.specs.Choices.{point_words}
@@ -60,11 +61,11 @@ choice_axes = concat (
     ∷ codes "<text x='310' y='12'>the bound T of each plan, by its nodes</text>\n" ∷ [])
 
 -- all numbers have room
-abbrev pub choice_front : List Point → List ℕ
-choice_front points = picture_front 780 (max (16 * length points + 30) 646)
+abbrev pub choice_front : (plans : ℕ) → List ℕ
+choice_front plans = picture_front 780 (max (16 * plans + 30) 646)
 
-abbrev pub choice_picture : List Point → List ℕ
-choice_picture points =
-    choice_front points
+abbrev pub choice_picture : Choice → List ℕ
+choice_picture choice =
+    choice_front (length choice.points.items)
     ++ (picture_ground
-    ++ (choice_axes ++ (flat_map point_picture points ++ codes "</svg>\n")))
+    ++ (choice_axes ++ (flat_map point_picture choice.points.items ++ codes "</svg>\n")))

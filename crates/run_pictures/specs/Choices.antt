@@ -2,8 +2,9 @@
 -- nodes, and by its bound on a scale of decades.
 use Rattle.std.specs.Prelude.{◌≡◌, ℕ, ◌+◌, ◌*◌, ◌/◌, ◌^◌, ◌<◌, ◌≤◌, ◌==◌, ◌&&◌, ◌||◌, nat_le}
 use Rattle.std.specs.Prelude.{nat_lt, Bool, true, List, [], ◌∷◌, ◌++◌, Option, Some, None, All}
-use Rattle.std.specs.Prelude.{if◌then◌else◌, codes, decimal}
+use Rattle.std.specs.Prelude.{if◌then◌else◌, codes, decimal, length}
 use Rattle.std.specs.List.{concat, flat_map}
+use Rattle.run_pictures.specs.declared.choices.Choice.{Choice}
 use Rattle.run_pictures.specs.declared.choices.Point.{Point}
 use Rattle.run_pictures.specs.Sweeps.{AreChained}
 
@@ -18,8 +19,8 @@ point_words point = concat (
 abbrev pub point_line : Point → List ℕ
 point_line point = point_words point ++ codes "\n"
 
-abbrev pub choice_text : List Point → List ℕ
-choice_text points = flat_map point_line points
+abbrev pub choice_text : Choice → List ℕ
+choice_text choice = flat_map point_line choice.points.items
 
 -- ---- where the plans stand
 
@@ -61,3 +62,8 @@ pub record IsPlotted (before : Option Point) (point : Point) : Type 0 where
 -- all plans of a choice
 abbrev pub ArePlotted : List Point → Type 0
 ArePlotted points = AreChained IsPlotted None points
+
+-- there are some
+pub record IsChoiceLaid (choice : Choice) : Type 0 where
+  pub some : 1 ≤ length choice.points.items
+  pub plotted : ArePlotted choice.points.items

@@ -21,8 +21,8 @@ tally_words tally =
 abbrev pub tally_line : Tally → List ℕ
 tally_line tally = tally_words tally ++ codes "\n"
 
-abbrev pub sweep_text : (bound : ℕ) → List Tally → List ℕ
-sweep_text bound tallies = bound_line bound ++ flat_map tally_line tallies
+abbrev pub sweep_text : Sweep → List ℕ
+sweep_text sweep = bound_line sweep.bound ++ flat_map tally_line sweep.tallies.items
 
 -- ---- the lines in their order
 

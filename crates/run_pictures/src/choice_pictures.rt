@@ -2,14 +2,13 @@
 
 ghost use Rattle.std.specs.Prelude.{◌≡◌, ◌≤◌, ◌<◌, ◌^◌};
 ghost use Rattle.std.specs.List.{flat_map};
-ghost use Rattle.texts.specs.Growth.{Puts};
-ghost use Rattle.run_pictures.specs.ChoicePictures.{choice_axes, choice_front, choice_picture};
-ghost use Rattle.run_pictures.specs.ChoicePictures.{dot, numbers_top, point_left, point_picture};
-ghost use Rattle.run_pictures.specs.ChoicePictures.{point_top};
+ghost use Rattle.edge_io.specs.Writing.{Writes};
+ghost use Rattle.run_pictures.specs.ChoicePictures.{choice_axes, choice_picture, dot, numbers_top};
+ghost use Rattle.run_pictures.specs.ChoicePictures.{point_left, point_picture, point_top};
 
-use crate::choices::{Point, put_point_words};
-use edge_io::{Piece, Sink, WriteFault, Writer, put_all, put_pieces};
-use picture_parts::{put_front, put_ground};
+use crate::choices::{Choice, Point, are_plotted, put_point_words};
+use edge_io::{Piece, Sink, Writer};
+use picture_parts::{Figure, put_front, put_ground};
 
 /// How far below the top a bound stands.
 fn point_top(point: &Point<'_>) -> u64
@@ -37,61 +36,49 @@ fn numbers_top(point: &Point<'_>) -> u64
 }
 
 /// Draws the point of a plan and a line from it to its numbers, and writes these.
-fn put_dot<K: Sink>(sink: &mut K, point: &Point<'_>) -> Result<(), WriteFault>
-    ensures { Puts result (dot point.now) (K.told sink.old) (K.told sink.new) }
+fn put_dot<K: Sink>(writer: &mut Writer<'_, K>, point: &Point<'_>)
+    ensures { Writes K.told (dot point.now) writer.old writer.new }
 {
     let x = point_left(point);
     let y = point_top(point);
     let top = numbers_top(point);
-    put_pieces(
-        sink,
-        &[
-            Piece::Text(b"</title>\n<path d='M"),
-            Piece::Number(x),
-            Piece::Text(b" "),
-            Piece::Number(y),
-            Piece::Text(b"L580 "),
-            Piece::Number(top),
-            Piece::Text(b"' stroke='silver'/><circle cx='"),
-            Piece::Number(x),
-            Piece::Text(b"' cy='"),
-            Piece::Number(y),
-            Piece::Text(b"' r='3' fill='steelblue'/>\n<text text-anchor='start' x='584' y='"),
-            Piece::Number(top + 4),
-            Piece::Text(b"'>"),
-            Piece::Number(u64::from(point.nodes)),
-            Piece::Text(b" nodes, T "),
-            Piece::Number(point.bound),
-            Piece::Text(b"</text></g>\n"),
-        ],
-    )
-}
-
-/// Draws a plan, with its line as the title.
-fn put_point<K: Sink>(sink: &mut K, point: &Point<'_>) -> Result<(), WriteFault>
-    ensures { Puts result (point_picture point.now) (K.told sink.old) (K.told sink.new) }
-{
-    written!(put_all(sink, b"<g><title>"));
-    written!(put_point_words(sink, point));
-    put_dot(sink, point)
+    writer.pieces(&[
+        Piece::Text(b"</title>\n<path d='M"),
+        Piece::Number(x),
+        Piece::Text(b" "),
+        Piece::Number(y),
+        Piece::Text(b"L580 "),
+        Piece::Number(top),
+        Piece::Text(b"' stroke='silver'/><circle cx='"),
+        Piece::Number(x),
+        Piece::Text(b"' cy='"),
+        Piece::Number(y),
+        Piece::Text(b"' r='3' fill='steelblue'/>\n<text text-anchor='start' x='584' y='"),
+        Piece::Number(top + 4),
+        Piece::Text(b"'>"),
+        Piece::Number(u64::from(point.nodes)),
+        Piece::Text(b" nodes, T "),
+        Piece::Number(point.bound),
+        Piece::Text(b"</text></g>\n"),
+    ]);
 }
 
 /// Draws all plans.
-fn put_points<K: Sink>(sink: &mut K, points: &[Point<'_>]) -> Result<(), WriteFault>
-    ensures { Puts result (flat_map point_picture points.now) (K.told sink.old) (K.told sink.new) }
+fn put_points<K: Sink>(writer: &mut Writer<'_, K>, points: &[Point<'_>])
+    ensures { Writes K.told (flat_map point_picture points.now) writer.old writer.new }
 {
     for i in 0..points.len() {
-        written!(put_point(sink, &points[i]));
+        writer.text(b"<g><title>");
+        put_point_words(writer, &points[i]);
+        put_dot(writer, &points[i]);
     }
-    Ok(())
 }
 
 /// Draws lines for every 50 nodes and every decade, and writes numbers beside them.
-fn put_choice_axes<K: Sink>(sink: &mut K) -> Result<(), WriteFault>
-    ensures { Puts result choice_axes (K.told sink.old) (K.told sink.new) }
+fn put_choice_axes<K: Sink>(writer: &mut Writer<'_, K>)
+    ensures { Writes K.told choice_axes writer.old writer.new }
 {
-    put_all(
-        sink,
+    writer.text(
         b"<path d='M60 20V596M160 20V596M260 20V596M360 20V596M460 20V596M560 20V596\
         M60 596H572M60 560H572M60 524H572M60 488H572M60 452H572M60 416H572M60 380H572\
         M60 344H572M60 308H572M60 272H572M60 236H572M60 200H572M60 164H572M60 128H572\
@@ -105,32 +92,41 @@ fn put_choice_axes<K: Sink>(sink: &mut K) -> Result<(), WriteFault>
         <text x='54' y='168'>1e12</text><text x='54' y='60'>1e15</text>\
         <text x='54' y='24'>T</text></g>\n\
         <text x='310' y='12'>the bound T of each plan, by its nodes</text>\n",
-    )
+    );
 }
 
-/// Writes the beginning, with the picture's width and height.
-fn put_choice_front<K: Sink>(sink: &mut K, points: &[Point<'_>]) -> Result<(), WriteFault>
-    ensures { Puts result (choice_front points.now) (K.told sink.old) (K.told sink.new) }
-{
-    put_front(sink, 780, (16 * points.len() as u64 + 30).max(646))
-}
+impl Figure for Choice<'_> {
+    ghost use Rattle.run_pictures.specs.Choices.{choice_text, IsChoiceLaid};
+    ghost use Rattle.run_pictures.specs.ChoicePictures.{choice_picture};
 
-/// Writes all parts of a picture.
-fn put_parts<K: Sink>(sink: &mut K, points: &[Point<'_>]) -> Result<(), WriteFault>
-    ensures { Puts result (choice_picture points.now) (K.told sink.old) (K.told sink.new) }
-{
-    written!(put_choice_front(sink, points));
-    written!(put_ground(sink));
-    written!(put_choice_axes(sink));
-    written!(put_points(sink, points));
-    put_all(sink, b"</svg>\n")
-}
+    ghost text = { choice_text };
 
-/// Writes the picture of a choice.
-pub fn put_choice_picture<K: Sink>(sink: &mut K, points: &[Point<'_>]) -> Result<(), WriteFault>
-    ensures { Puts result (choice_picture points.now) (K.told sink.old) (K.told sink.new) }
-{
-    let mut parts = Writer::gathering(sink);
-    let written = put_parts(&mut parts, points);
-    parts.finish_with(written)
+    ghost picture = { choice_picture };
+
+    ghost laid = { IsChoiceLaid };
+
+    fn put_text<K: Sink>(&self, writer: &mut Writer<'_, K>) {
+        let points: &[Point<'_>] = &self.points;
+        for i in 0..points.len() {
+            put_point_words(writer, &points[i]);
+            writer.text(b"\n");
+        }
+    }
+
+    fn put_picture<K: Sink>(&self, writer: &mut Writer<'_, K>) {
+        let points: &[Point<'_>] = &self.points;
+        put_front(writer, 780, (16 * points.len() as u64 + 30).max(646));
+        put_ground(writer);
+        put_choice_axes(writer);
+        put_points(writer, points);
+        writer.text(b"</svg>\n");
+    }
+
+    fn is_laid(&self) -> bool {
+        let points: &[Point<'_>] = &self.points;
+        if points.is_empty() {
+            return false;
+        }
+        are_plotted(points)
+    }
 }

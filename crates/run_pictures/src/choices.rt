@@ -1,12 +1,11 @@
 //! What `choose` writes: plans, a line for each.
 
-ghost use Rattle.std.specs.Prelude.{◌≡◌, ◌≤◌, ◌<◌, ◌^◌, ◌*◌, ◌/◌, ◌+◌, All, IfSome, None, true};
-ghost use Rattle.texts.specs.Growth.{Puts};
-ghost use Rattle.run_pictures.specs.Choices.{ArePlotted, IsPlotted, choice_text, is_between};
-ghost use Rattle.run_pictures.specs.Choices.{is_better, is_plain, on_scale, place_behind};
-ghost use Rattle.run_pictures.specs.Choices.{point_line, point_words};
+ghost use Rattle.std.specs.Prelude.{◌≡◌, ◌≤◌, ◌<◌, ◌^◌, ◌*◌, ◌/◌, ◌+◌, All, IfSome, true};
+ghost use Rattle.edge_io.specs.Writing.{Writes};
+ghost use Rattle.run_pictures.specs.Choices.{ArePlotted, IsPlotted, is_between, is_better};
+ghost use Rattle.run_pictures.specs.Choices.{is_plain, on_scale, place_behind, point_words};
 
-use edge_io::{Lines, Piece, Sink, Words, WriteFault, first_line, number, put_all, put_pieces};
+use edge_io::{Lines, Piece, Sink, Words, Writer, first_line, number};
 use picture_parts::{ChartError, LineError, Wanted, next_is, number_behind};
 use std::alloc::Global;
 
@@ -28,41 +27,26 @@ pub struct Point<'a> {
     pub part: u32,
 }
 
+/// Plans, as `choose` writes them.
+#[derive(Drop)]
+pub struct Choice<'a> {
+    pub points: Vec<Point<'a>>,
+}
+
 // ---- the text
 
 /// Writes a line, without its newline.
-pub fn put_point_words<K: Sink>(sink: &mut K, point: &Point<'_>) -> Result<(), WriteFault>
-    ensures { Puts result (point_words point.now) (K.told sink.old) (K.told sink.new) }
+pub fn put_point_words<K: Sink>(writer: &mut Writer<'_, K>, point: &Point<'_>)
+    ensures { Writes K.told (point_words point.now) writer.old writer.new }
 {
-    put_pieces(
-        sink,
-        &[
-            Piece::Text(b"nodes "),
-            Piece::Number(u64::from(point.nodes)),
-            Piece::Text(b" bound "),
-            Piece::Number(point.bound),
-            Piece::Text(b" "),
-            Piece::Text(point.rest),
-        ],
-    )
-}
-
-/// Writes a line.
-fn put_point_line<K: Sink>(sink: &mut K, point: &Point<'_>) -> Result<(), WriteFault>
-    ensures { Puts result (point_line point.now) (K.told sink.old) (K.told sink.new) }
-{
-    written!(put_point_words(sink, point));
-    put_all(sink, b"\n")
-}
-
-/// Writes plans as `choose` writes them.
-pub fn put_choice<K: Sink>(sink: &mut K, points: &[Point<'_>]) -> Result<(), WriteFault>
-    ensures { Puts result (choice_text points.now) (K.told sink.old) (K.told sink.new) }
-{
-    for i in 0..points.len() {
-        written!(put_point_line(sink, &points[i]));
-    }
-    Ok(())
+    writer.pieces(&[
+        Piece::Text(b"nodes "),
+        Piece::Number(u64::from(point.nodes)),
+        Piece::Text(b" bound "),
+        Piece::Number(point.bound),
+        Piece::Text(b" "),
+        Piece::Text(point.rest),
+    ]);
 }
 
 // ---- where the plans stand
@@ -239,7 +223,7 @@ fn take<'a>(points: &mut Vec<Point<'a>>, line: &'a [u8]) -> Result<(), LineError
 }
 
 /// Reads plans. The error is the first line that is not what should stand there, or want of memory.
-pub fn read_choice(alloc: Global, text: &[u8]) -> Result<Vec<Point<'_>>, ChartError> {
+pub fn read_choice(alloc: Global, text: &[u8]) -> Result<Choice<'_>, ChartError> {
     let mut points = Vec::new(alloc);
     for (line, bytes) in Lines::new(text, 1) {
         match take(&mut points, bytes) {
@@ -253,5 +237,5 @@ pub fn read_choice(alloc: Global, text: &[u8]) -> Result<Vec<Point<'_>>, ChartEr
             Err(LineError::NoMemory) => return Err(ChartError::NoMemory),
         }
     }
-    Ok(points)
+    Ok(Choice { points })
 }

@@ -3,24 +3,14 @@
 //! of how many runs lock when, and of a choice a point for each plan; those of traces stand in
 //! `trace_pictures` and `pulse_pictures`.
 //!
-//! That each picture is the defined one of a chart, a trace, a sweep or a choice, whose own text
-//! is just what was read, is proved ([`draw`]), and that what is drawn stands where it belongs: of
-//! a chart that its words stand row by row and node by node, of a sweep that its lines stand in
-//! the bars of their configurations, as high as their runs are of those of the highest bar
-//! ([`is_sweep_laid`]), and of a choice that its plans get better, and stand by their nodes and
-//! their bounds ([`are_plotted`]). That all that these programs write is read, how wide columns
-//! and bars are, and who is found hit, is not.
+//! Each of these is a [`Figure`]. That each picture is the defined one of a chart, a trace, a sweep
+//! or a choice, whose own text is just what was read, is proved ([`draw`]), and that what is drawn
+//! stands where it belongs: of a chart that its words stand row by row and node by node, of a sweep
+//! that its lines stand in the bars of their configurations, as high as their runs are of those of
+//! the highest bar, and of a choice that its plans get better, and stand by their nodes and their
+//! bounds. That all that these programs write is read, how wide columns and bars are, and who is
+//! found hit, is not.
 #![tactic(auto)]
-
-// As `?` after a part of a text that is written, but with no call of its own.
-macro_rules! written {
-    ($part:expr) => {
-        match $part {
-            Ok(()) => {}
-            Err(WriteFault) => return Err(WriteFault),
-        }
-    };
-}
 
 mod cells;
 mod charts;
@@ -41,13 +31,9 @@ mod sweep_pictures;
 mod sweep_printing;
 mod sweep_reading;
 
-pub use choice_pictures::put_choice_picture;
-pub use choices::{Point, are_plotted, is_choice, put_choice, read_choice};
+pub use choices::{Choice, Point, is_choice, read_choice};
 pub use drawing::{DrawError, draw};
 pub use pages::Form;
-pub use picture_parts::{ChartError, Wanted, laws};
+pub use picture_parts::{ChartError, Figure, Wanted, laws};
 pub use sweep_charts::Sweep;
-pub use sweep_laid::is_sweep_laid;
-pub use sweep_pictures::put_sweep_picture;
-pub use sweep_printing::put_sweep;
 pub use sweep_reading::{is_sweep, read_sweep};

@@ -2,14 +2,14 @@
 
 ghost use Rattle.std.specs.Prelude.{◌≡◌, ◌<◌, ◌^◌};
 ghost use Rattle.std.specs.List.{flat_map};
-ghost use Rattle.texts.specs.Growth.{Puts};
-ghost use Rattle.run_pictures.specs.Pictures.{bound_at, bound_mark, caption, caption_at};
-ghost use Rattle.run_pictures.specs.Pictures.{caption_front, end_picture, era_begin, era_mark};
+ghost use Rattle.edge_io.specs.Writing.{Writes};
+ghost use Rattle.run_pictures.specs.Pictures.{bound_at, bound_mark};
+ghost use Rattle.run_pictures.specs.Pictures.{end_picture, era_begin, era_mark};
 ghost use Rattle.run_pictures.specs.Pictures.{has_column, is_before, locked_mark, mark_row};
 
 use crate::charts::{Chart, End};
 use crate::printing::put_end;
-use edge_io::{Piece, Sink, WriteFault, put_all, put_pieces};
+use edge_io::{Piece, Sink, Writer};
 use picture_parts::{Frame, bottom, line_top, put_mark_at};
 
 /// Whether a configuration has a column.
@@ -21,30 +21,28 @@ fn has_column(frame: Frame, t: u64) -> bool
 
 /// Draws a mark at a configuration, if that has a row.
 fn put_mark_row<'a, K: Sink>(
-    sink: &mut K,
+    writer: &mut Writer<'_, K>,
     chart: &Chart,
     t: u64,
     below: u16,
     colour: &'a [u8],
     word: &'a [u8],
-) -> Result<(), WriteFault>
-    ensures { Puts result (mark_row chart.now t below colour.now word.now)
-        (K.told sink.old) (K.told sink.new) }
+)
+    ensures { Writes K.told (mark_row chart.now t below colour.now word.now)
+        writer.old writer.new }
 {
     let frame = chart.frame();
     if has_column(frame, t) {
         let column = (t - u64::from(chart.first)) as u32;
         put_mark_at(
-            sink,
+            writer,
             frame,
             column,
             line_top(chart.nodes),
             below,
             colour,
             word,
-        )
-    } else {
-        Ok(())
+        );
     }
 }
 
@@ -60,12 +58,12 @@ fn era_begin(era: Option<u32>) -> u64
 }
 
 /// Draws where an era begins.
-fn put_era_mark<K: Sink>(sink: &mut K, chart: &Chart, era: Option<u32>) -> Result<(), WriteFault>
-    ensures { Puts result (era_mark chart.now era) (K.told sink.old) (K.told sink.new) }
+fn put_era_mark<K: Sink>(writer: &mut Writer<'_, K>, chart: &Chart, era: Option<u32>)
+    ensures { Writes K.told (era_mark chart.now era) writer.old writer.new }
 {
     match era {
-        Some(begin) => put_mark_row(sink, chart, u64::from(begin), 12, b"black", b"era"),
-        None => Ok(()),
+        Some(begin) => put_mark_row(writer, chart, u64::from(begin), 12, b"black", b"era"),
+        None => {}
     }
 }
 
@@ -80,99 +78,57 @@ fn is_before(t: u64, next: Option<u32>) -> bool
 }
 
 /// Draws the bound at a configuration, if that is before the next era.
-fn put_bound_at<K: Sink>(
-    sink: &mut K,
-    chart: &Chart,
-    t: u64,
-    next: Option<u32>,
-) -> Result<(), WriteFault>
-    ensures { Puts result (bound_at chart.now t next) (K.told sink.old) (K.told sink.new) }
+fn put_bound_at<K: Sink>(writer: &mut Writer<'_, K>, chart: &Chart, t: u64, next: Option<u32>)
+    ensures { Writes K.told (bound_at chart.now t next) writer.old writer.new }
 {
     if is_before(t, next) {
-        put_mark_row(sink, chart, t, 24, b"firebrick", b"bound")
-    } else {
-        Ok(())
+        put_mark_row(writer, chart, t, 24, b"firebrick", b"bound");
     }
 }
 
 /// Draws the bound, counted from where an era begins, if the era is so long. A bound after all
 /// columns has none.
-fn put_bound_mark<K: Sink>(sink: &mut K, chart: &Chart, end: End) -> Result<(), WriteFault>
-    ensures { Puts result (bound_mark chart.now end) (K.told sink.old) (K.told sink.new) }
+fn put_bound_mark<K: Sink>(writer: &mut Writer<'_, K>, chart: &Chart, end: End)
+    ensures { Writes K.told (bound_mark chart.now end) writer.old writer.new }
 {
     let behind = u64::from(chart.first) + u64::from(chart.rows);
     if chart.bound < behind {
-        put_bound_at(sink, chart, era_begin(end.era) + chart.bound, end.next)
-    } else {
-        Ok(())
+        put_bound_at(writer, chart, era_begin(end.era) + chart.bound, end.next);
     }
 }
 
 /// Draws the first locked configuration.
-fn put_locked_mark<K: Sink>(
-    sink: &mut K,
-    chart: &Chart,
-    locked: Option<u32>,
-) -> Result<(), WriteFault>
-    ensures { Puts result (locked_mark chart.now locked) (K.told sink.old) (K.told sink.new) }
+fn put_locked_mark<K: Sink>(writer: &mut Writer<'_, K>, chart: &Chart, locked: Option<u32>)
+    ensures { Writes K.told (locked_mark chart.now locked) writer.old writer.new }
 {
     match locked {
-        Some(t) => put_mark_row(sink, chart, u64::from(t), 36, b"darkgreen", b"locked"),
-        None => Ok(()),
+        Some(t) => put_mark_row(writer, chart, u64::from(t), 36, b"darkgreen", b"locked"),
+        None => {}
     }
-}
-
-/// Writes the beginning of a line of the caption.
-fn put_caption_front<K: Sink>(sink: &mut K, y: u64) -> Result<(), WriteFault>
-    ensures { Puts result (caption_front y) (K.told sink.old) (K.told sink.new) }
-{
-    put_pieces(
-        sink,
-        &[
-            Piece::Text(b"<text text-anchor='start' x='4' y='"),
-            Piece::Number(y),
-            Piece::Text(b"'>"),
-        ],
-    )
-}
-
-/// Writes an era's line at a height.
-fn put_caption_at<K: Sink>(sink: &mut K, y: u64, end: End) -> Result<(), WriteFault>
-    ensures { Puts result (caption_at y end) (K.told sink.old) (K.told sink.new) }
-{
-    written!(put_caption_front(sink, y));
-    written!(put_end(sink, end));
-    put_all(sink, b"</text>\n")
-}
-
-/// Writes an era's line below the cells.
-fn put_caption<K: Sink>(sink: &mut K, chart: &Chart, end: End) -> Result<(), WriteFault>
-    ensures { Puts result (caption chart.now end) (K.told sink.old) (K.told sink.new) }
-{
-    put_caption_at(
-        sink,
-        bottom(chart.frame()) + 60 + 16 * u64::from(end.place),
-        end,
-    )
 }
 
 /// Draws what a line after the rows says.
-fn put_end_picture<K: Sink>(sink: &mut K, chart: &Chart, end: End) -> Result<(), WriteFault>
-    ensures { Puts result (end_picture chart.now end) (K.told sink.old) (K.told sink.new) }
+fn put_end_picture<K: Sink>(writer: &mut Writer<'_, K>, chart: &Chart, end: End)
+    ensures { Writes K.told (end_picture chart.now end) writer.old writer.new }
 {
-    written!(put_era_mark(sink, chart, end.era));
-    written!(put_bound_mark(sink, chart, end));
-    written!(put_locked_mark(sink, chart, end.locked));
-    put_caption(sink, chart, end)
+    put_era_mark(writer, chart, end.era);
+    put_bound_mark(writer, chart, end);
+    put_locked_mark(writer, chart, end.locked);
+    writer.pieces(&[
+        Piece::Text(b"<text text-anchor='start' x='4' y='"),
+        Piece::Number(bottom(chart.frame()) + 60 + 16 * u64::from(end.place)),
+        Piece::Text(b"'>"),
+    ]);
+    put_end(writer, end);
+    writer.text(b"</text>\n");
 }
 
 /// Draws what the lines after the rows say.
-pub fn put_ends<K: Sink>(sink: &mut K, chart: &Chart, ends: &[End]) -> Result<(), WriteFault>
-    ensures { Puts result (flat_map (end_picture chart.now) ends.now)
-        (K.told sink.old) (K.told sink.new) }
+pub fn put_ends<K: Sink>(writer: &mut Writer<'_, K>, chart: &Chart, ends: &[End])
+    ensures { Writes K.told (flat_map (end_picture chart.now) ends.now)
+        writer.old writer.new }
 {
     for i in 0..ends.len() {
-        written!(put_end_picture(sink, chart, ends[i]));
+        put_end_picture(writer, chart, ends[i]);
     }
-    Ok(())
 }

@@ -1,24 +1,15 @@
 //! Writes the page of a picture: one text of HTML, which needs no other. Below the picture it says
 //! what the rows say of the cell under the pointer; arrow keys choose the cell beside it.
 
-ghost use Rattle.texts.specs.Growth.{Puts};
-ghost use Rattle.pulse_pictures.specs.PulsePictures.{pulse_picture};
-ghost use Rattle.run_pictures.specs.ChoicePictures.{choice_picture};
+ghost use Rattle.edge_io.specs.Writing.{Writes};
 ghost use Rattle.run_pictures.specs.Pages.{formed, page_behind, page_choose, page_front};
-ghost use Rattle.run_pictures.specs.Pages.{page_keys, page_middle, page_script, page_text};
-ghost use Rattle.run_pictures.specs.Pictures.{picture_text};
-ghost use Rattle.run_pictures.specs.SweepPictures.{sweep_picture};
-ghost use Rattle.trace_pictures.specs.TracePictures.{trace_picture};
+ghost use Rattle.run_pictures.specs.Pages.{page_keys, page_middle, page_script};
 
-use crate::charts::Chart;
-use crate::pictures::put_picture;
-use crate::{Point, Sweep, put_choice_picture, put_sweep_picture};
-use edge_io::{Sink, WriteFault, put_all};
-use pulse_pictures::{PulseTrace, put_pulse_picture};
-use trace_pictures::{Trace, put_trace_picture};
+use edge_io::{Sink, Writer};
+use picture_parts::Figure;
 
 /// What is written of a text.
-#[derive(Clone, Copy, Debug)]
+#[derive(Clone, Copy)]
 pub enum Form {
     /// Its picture, in SVG.
     Picture,
@@ -27,11 +18,10 @@ pub enum Form {
 }
 
 /// Writes what stands before the picture.
-fn put_page_front<K: Sink>(sink: &mut K) -> Result<(), WriteFault>
-    ensures { Puts result page_front (K.told sink.old) (K.told sink.new) }
+fn put_page_front<K: Sink>(writer: &mut Writer<'_, K>)
+    ensures { Writes K.told page_front writer.old writer.new }
 {
-    put_all(
-        sink,
+    writer.text(
         b"<!DOCTYPE html>\n\
         <html lang='en'>\n\
         <head>\n\
@@ -46,26 +36,24 @@ fn put_page_front<K: Sink>(sink: &mut K) -> Result<(), WriteFault>
         </style>\n\
         </head>\n\
         <body>\n",
-    )
+    );
 }
 
 /// Writes what stands between the picture and the rows.
-fn put_page_middle<K: Sink>(sink: &mut K) -> Result<(), WriteFault>
-    ensures { Puts result page_middle (K.told sink.old) (K.told sink.new) }
+fn put_page_middle<K: Sink>(writer: &mut Writer<'_, K>)
+    ensures { Writes K.told page_middle writer.old writer.new }
 {
-    put_all(
-        sink,
+    writer.text(
         b"<pre id='said'>Point at what is drawn. The arrow keys go on to the next cell.</pre>\n\
         <pre id='rows' hidden>\n",
-    )
+    );
 }
 
 /// Writes what stands after the rows: how the page finds its cells.
-fn put_page_script<K: Sink>(sink: &mut K) -> Result<(), WriteFault>
-    ensures { Puts result page_script (K.told sink.old) (K.told sink.new) }
+fn put_page_script<K: Sink>(writer: &mut Writer<'_, K>)
+    ensures { Writes K.told page_script writer.old writer.new }
 {
-    put_all(
-        sink,
+    writer.text(
         b"</pre>\n\
         <script>\n\
         const newline = String.fromCharCode(10);\n\
@@ -96,15 +84,14 @@ fn put_page_script<K: Sink>(sink: &mut K) -> Result<(), WriteFault>
         add(cells, told[2] + ' ' + told[1], group);\n\
         group.addEventListener('pointerover', () => choose(+told[2], +told[1], false));\n\
         }\n",
-    )
+    );
 }
 
 /// Writes what the page does when a cell is chosen.
-fn put_page_choose<K: Sink>(sink: &mut K) -> Result<(), WriteFault>
-    ensures { Puts result page_choose (K.told sink.old) (K.told sink.new) }
+fn put_page_choose<K: Sink>(writer: &mut Writer<'_, K>)
+    ensures { Writes K.told page_choose writer.old writer.new }
 {
-    put_all(
-        sink,
+    writer.text(
         b"let now = null;\n\
         function choose(t, node, go) {\n\
         const key = t + ' ' + node;\n\
@@ -122,15 +109,14 @@ fn put_page_choose<K: Sink>(sink: &mut K) -> Result<(), WriteFault>
         if (go && groups.length)\n\
         groups[0].scrollIntoView({ block: 'nearest', inline: 'nearest' });\n\
         }\n",
-    )
+    );
 }
 
 /// Writes what it does for keys.
-fn put_page_keys<K: Sink>(sink: &mut K) -> Result<(), WriteFault>
-    ensures { Puts result page_keys (K.told sink.old) (K.told sink.new) }
+fn put_page_keys<K: Sink>(writer: &mut Writer<'_, K>)
+    ensures { Writes K.told page_keys writer.old writer.new }
 {
-    put_all(
-        sink,
+    writer.text(
         b"function beside(set, number, by) {\n\
         const list = [...set];\n\
         const place = list.indexOf(number) + by;\n\
@@ -149,150 +135,35 @@ fn put_page_keys<K: Sink>(sink: &mut K) -> Result<(), WriteFault>
         </script>\n\
         </body>\n\
         </html>\n",
-    )
+    );
 }
 
 /// Writes what stands after a picture: the rows, and what the page does.
-fn put_page_behind<K: Sink>(sink: &mut K, rows: &[u8]) -> Result<(), WriteFault>
-    ensures { Puts result (page_behind rows.now) (K.told sink.old) (K.told sink.new) }
+fn put_page_behind<K: Sink>(writer: &mut Writer<'_, K>, rows: &[u8])
+    ensures { Writes K.told (page_behind rows.now) writer.old writer.new }
 {
-    written!(put_page_middle(sink));
-    written!(put_all(sink, rows));
-    written!(put_page_script(sink));
-    written!(put_page_choose(sink));
-    put_page_keys(sink)
+    put_page_middle(writer);
+    writer.text(rows);
+    put_page_script(writer);
+    put_page_choose(writer);
+    put_page_keys(writer);
 }
 
-/// Writes the page of a chart and its rows.
-fn put_chart_page<K: Sink>(sink: &mut K, rows: &[u8], chart: &Chart) -> Result<(), WriteFault>
-    ensures { Puts result (page_text rows.now (picture_text chart.now))
-        (K.told sink.old) (K.told sink.new) }
-{
-    written!(put_page_front(sink));
-    written!(put_picture(sink, chart));
-    put_page_behind(sink, rows)
-}
-
-/// Writes the page of a trace and its lines.
-fn put_trace_page<K: Sink>(sink: &mut K, rows: &[u8], trace: &Trace) -> Result<(), WriteFault>
-    ensures { Puts result (page_text rows.now (trace_picture trace.now))
-        (K.told sink.old) (K.told sink.new) }
-{
-    written!(put_page_front(sink));
-    written!(put_trace_picture(sink, trace));
-    put_page_behind(sink, rows)
-}
-
-/// Writes the page of a trace of a pulse plan and its lines.
-fn put_pulse_page<K: Sink>(sink: &mut K, rows: &[u8], trace: &PulseTrace) -> Result<(), WriteFault>
-    ensures { Puts result (page_text rows.now (pulse_picture trace.now))
-        (K.told sink.old) (K.told sink.new) }
-{
-    written!(put_page_front(sink));
-    written!(put_pulse_picture(sink, trace));
-    put_page_behind(sink, rows)
-}
-
-/// Writes the page of a sweep and its lines.
-fn put_sweep_page<K: Sink>(sink: &mut K, rows: &[u8], sweep: &Sweep) -> Result<(), WriteFault>
-    ensures { Puts result (page_text rows.now (sweep_picture sweep.now))
-        (K.told sink.old) (K.told sink.new) }
-{
-    written!(put_page_front(sink));
-    written!(put_sweep_picture(sink, sweep));
-    put_page_behind(sink, rows)
-}
-
-/// Writes the page of a choice and its lines.
-fn put_choice_page<K: Sink>(
-    sink: &mut K,
-    rows: &[u8],
-    points: &[Point<'_>],
-) -> Result<(), WriteFault>
-    ensures { Puts result (page_text rows.now (choice_picture points.now))
-        (K.told sink.old) (K.told sink.new) }
-{
-    written!(put_page_front(sink));
-    written!(put_choice_picture(sink, points));
-    put_page_behind(sink, rows)
-}
-
-/// Writes what is wanted of a chart.
-pub fn put_formed_chart<K: Sink>(
-    sink: &mut K,
+/// Writes what is wanted of a figure: its picture, or a page of this and of the rows that it is of.
+pub fn put_formed<K: Sink, F: Figure>(
+    writer: &mut Writer<'_, K>,
     form: Form,
     rows: &[u8],
-    chart: &Chart,
-) -> Result<(), WriteFault>
-    ensures { Puts result (formed form rows.now (picture_text chart.now))
-        (K.told sink.old) (K.told sink.new) }
+    figure: &F,
+)
+    ensures { Writes K.told (formed form rows.now (F.picture figure.now)) writer.old writer.new }
 {
     match form {
-        Form::Picture => put_picture(sink, chart),
-        Form::Page => put_chart_page(sink, rows, chart),
-    }
-}
-
-/// Writes what is wanted of a trace.
-pub fn put_formed_trace<K: Sink>(
-    sink: &mut K,
-    form: Form,
-    rows: &[u8],
-    trace: &Trace,
-) -> Result<(), WriteFault>
-    ensures { Puts result (formed form rows.now (trace_picture trace.now))
-        (K.told sink.old) (K.told sink.new) }
-{
-    match form {
-        Form::Picture => put_trace_picture(sink, trace),
-        Form::Page => put_trace_page(sink, rows, trace),
-    }
-}
-
-/// Writes what is wanted of a trace of a pulse plan.
-pub fn put_formed_pulses<K: Sink>(
-    sink: &mut K,
-    form: Form,
-    rows: &[u8],
-    trace: &PulseTrace,
-) -> Result<(), WriteFault>
-    ensures { Puts result (formed form rows.now (pulse_picture trace.now))
-        (K.told sink.old) (K.told sink.new) }
-{
-    match form {
-        Form::Picture => put_pulse_picture(sink, trace),
-        Form::Page => put_pulse_page(sink, rows, trace),
-    }
-}
-
-/// Writes what is wanted of a sweep.
-pub fn put_formed_sweep<K: Sink>(
-    sink: &mut K,
-    form: Form,
-    rows: &[u8],
-    sweep: &Sweep,
-) -> Result<(), WriteFault>
-    ensures { Puts result (formed form rows.now (sweep_picture sweep.now))
-        (K.told sink.old) (K.told sink.new) }
-{
-    match form {
-        Form::Picture => put_sweep_picture(sink, sweep),
-        Form::Page => put_sweep_page(sink, rows, sweep),
-    }
-}
-
-/// Writes what is wanted of a choice.
-pub fn put_formed_choice<K: Sink>(
-    sink: &mut K,
-    form: Form,
-    rows: &[u8],
-    points: &[Point<'_>],
-) -> Result<(), WriteFault>
-    ensures { Puts result (formed form rows.now (choice_picture points.now))
-        (K.told sink.old) (K.told sink.new) }
-{
-    match form {
-        Form::Picture => put_choice_picture(sink, points),
-        Form::Page => put_choice_page(sink, rows, points),
+        Form::Picture => figure.put_picture(writer),
+        Form::Page => {
+            put_page_front(writer);
+            figure.put_picture(writer);
+            put_page_behind(writer, rows);
+        }
     }
 }

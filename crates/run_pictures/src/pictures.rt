@@ -1,106 +1,70 @@
 //! Draws a chart.
 
-ghost use Rattle.std.specs.Prelude.{length};
-ghost use Rattle.texts.specs.Growth.{Puts};
-ghost use Rattle.run_pictures.specs.Pictures.{cell_legend, chart_legend, facts, facts_in};
-ghost use Rattle.run_pictures.specs.Pictures.{legend_in, picture_text, sized_front};
-ghost use Rattle.picture_parts.specs.Fronts.{picture_width};
+ghost use Rattle.edge_io.specs.Writing.{Writes};
+ghost use Rattle.run_pictures.specs.Pictures.{cell_legend, picture_text};
 
 use crate::cells::put_cells;
-use crate::charts::{Chart, End};
+use crate::charts::Chart;
+use crate::laid::is_laid;
 use crate::marks::put_ends;
-use edge_io::{Piece, Sink, WriteFault, Writer, put_all, put_pieces};
+use crate::printing::{put_end_lines, put_rows};
+use edge_io::{Piece, Sink, Writer};
 use picture_parts::{
-    Frame, bottom, picture_width, put_colour_legend, put_front, put_ground, put_number_caption,
-    put_span,
+    Figure, bottom, picture_width, put_bound, put_colour_legend, put_front, put_ground,
+    put_number_caption, put_span,
 };
 
-/// Writes the beginning, with the picture's width and height.
-fn put_sized_front<K: Sink>(sink: &mut K, chart: &Chart) -> Result<(), WriteFault>
-    ensures { Puts result (sized_front chart.now) (K.told sink.old) (K.told sink.new) }
-{
-    let frame = chart.frame();
-    put_front(
-        sink,
-        picture_width(frame),
-        bottom(frame) + 102 + 16 * chart.lines().len() as u64,
-    )
-}
-
-/// Writes what a picture is of, in its frame.
-fn put_facts_in<K: Sink>(
-    sink: &mut K,
-    frame: Frame,
-    nodes: u64,
-    bound: u64,
-) -> Result<(), WriteFault>
-    ensures { Puts result (facts_in frame nodes bound) (K.told sink.old) (K.told sink.new) }
-{
-    written!(put_span(sink, frame));
-    written!(put_number_caption(sink, bottom(frame) + 28, b"nodes", nodes));
-    put_number_caption(sink, bottom(frame) + 44, b"bound", bound)
-}
-
-/// Writes what a picture is of.
-fn put_facts<K: Sink>(sink: &mut K, chart: &Chart) -> Result<(), WriteFault>
-    ensures { Puts result (facts chart.now) (K.told sink.old) (K.told sink.new) }
-{
-    put_facts_in(sink, chart.frame(), u64::from(chart.nodes), chart.bound)
-}
-
 /// Writes what else the cells mean.
-fn put_cell_legend<K: Sink>(sink: &mut K, y: u64) -> Result<(), WriteFault>
-    ensures { Puts result (cell_legend y) (K.told sink.old) (K.told sink.new) }
+fn put_cell_legend<K: Sink>(writer: &mut Writer<'_, K>, y: u64)
+    ensures { Writes K.told (cell_legend y) writer.old writer.new }
 {
-    put_pieces(
-        sink,
-        &[
-            Piece::Text(b"<g text-anchor='start' transform='translate(4,"),
-            Piece::Number(y),
-            Piece::Text(
-                b")'>\n<rect width='18' height='18' fill='url(#faulty)'/>\
+    writer.pieces(&[
+        Piece::Text(b"<g text-anchor='start' transform='translate(4,"),
+        Piece::Number(y),
+        Piece::Text(
+            b")'>\n<rect width='18' height='18' fill='url(#faulty)'/>\
                 <text x='24' y='13'>faulty</text>\n\
                 <rect x='110' width='18' height='18' fill='silver'/><path d='M110 0h8l-8 8z'/>\
                 <text x='134' y='13'>hit by an era's start</text>\n</g>\n",
-            ),
-        ],
-    )
+        ),
+    ]);
 }
 
-/// Writes what the colours and the cells mean, below these lines of the caption.
-fn put_legend_in<K: Sink>(sink: &mut K, frame: Frame, ends: &[End]) -> Result<(), WriteFault>
-    ensures { Puts result (legend_in frame (length ends.now)) (K.told sink.old) (K.told sink.new) }
-{
-    let lines = 16 * ends.len() as u64;
-    written!(put_colour_legend(sink, bottom(frame) + 54 + lines));
-    put_cell_legend(sink, bottom(frame) + 76 + lines)
-}
+impl Figure for Chart {
+    ghost use Rattle.run_pictures.specs.Charts.{chart_text};
+    ghost use Rattle.run_pictures.specs.Laid.{IsLaid};
+    ghost use Rattle.run_pictures.specs.Pictures.{picture_text};
 
-/// Writes the legend of a chart.
-fn put_chart_legend<K: Sink>(sink: &mut K, chart: &Chart) -> Result<(), WriteFault>
-    ensures { Puts result (chart_legend chart.now) (K.told sink.old) (K.told sink.new) }
-{
-    put_legend_in(sink, chart.frame(), chart.lines())
-}
+    ghost text = { chart_text };
 
-/// Writes all parts of a picture.
-fn put_parts<K: Sink>(sink: &mut K, chart: &Chart) -> Result<(), WriteFault>
-    ensures { Puts result (picture_text chart.now) (K.told sink.old) (K.told sink.new) }
-{
-    written!(put_sized_front(sink, chart));
-    written!(put_ground(sink));
-    written!(put_cells(sink, chart.frame(), chart.words()));
-    written!(put_facts(sink, chart));
-    written!(put_ends(sink, chart, chart.lines()));
-    written!(put_chart_legend(sink, chart));
-    put_all(sink, b"</svg>\n")
-}
+    ghost picture = { picture_text };
 
-/// Writes the picture of a chart.
-pub fn put_picture<K: Sink>(sink: &mut K, chart: &Chart) -> Result<(), WriteFault>
-    ensures { Puts result (picture_text chart.now) (K.told sink.old) (K.told sink.new) }
-{
-    let mut parts = Writer::gathering(sink);
-    let written = put_parts(&mut parts, chart);
-    parts.finish_with(written)
+    ghost laid = { IsLaid };
+
+    fn put_text<K: Sink>(&self, writer: &mut Writer<'_, K>) {
+        put_bound(writer, self.bound);
+        put_rows(writer, self.first, self.nodes, self.words());
+        put_end_lines(writer, self.lines());
+    }
+
+    fn put_picture<K: Sink>(&self, writer: &mut Writer<'_, K>) {
+        let frame = self.frame();
+        let bottom = bottom(frame);
+        let ends = self.lines();
+        let lines = 16 * ends.len() as u64;
+        put_front(writer, picture_width(frame), bottom + 102 + lines);
+        put_ground(writer);
+        put_cells(writer, frame, self.words());
+        put_span(writer, frame);
+        put_number_caption(writer, bottom + 28, b"nodes", u64::from(self.nodes));
+        put_number_caption(writer, bottom + 44, b"bound", self.bound);
+        put_ends(writer, self, ends);
+        put_colour_legend(writer, bottom + 54 + lines);
+        put_cell_legend(writer, bottom + 76 + lines);
+        writer.text(b"</svg>\n");
+    }
+
+    fn is_laid(&self) -> bool {
+        is_laid(self)
+    }
 }

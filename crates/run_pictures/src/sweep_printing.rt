@@ -1,59 +1,33 @@
 //! Writes a sweep as `sweep` writes it.
 
 ghost use Rattle.std.specs.List.{flat_map};
-ghost use Rattle.texts.specs.Growth.{Puts};
-ghost use Rattle.run_pictures.specs.Sweeps.{runs_words, sweep_text, tally_line, tally_words};
+ghost use Rattle.edge_io.specs.Writing.{Writes};
+ghost use Rattle.run_pictures.specs.Sweeps.{tally_line, tally_words};
 
 use crate::sweep_charts::Tally;
-use edge_io::{Piece, Sink, WriteFault, put_all, put_pieces};
-use picture_parts::{put_bound, put_era, put_locked};
-
-/// Writes how many runs a line is of, and the least number of a key of them.
-fn put_runs<K: Sink>(sink: &mut K, tally: Tally) -> Result<(), WriteFault>
-    ensures { Puts result (runs_words tally) (K.told sink.old) (K.told sink.new) }
-{
-    put_pieces(
-        sink,
-        &[
-            Piece::Text(b" runs "),
-            Piece::Number(u64::from(tally.runs)),
-            Piece::Text(b" seed "),
-            Piece::Number(tally.seed),
-        ],
-    )
-}
+use edge_io::{Piece, Sink, Writer};
+use picture_parts::{put_era, put_locked};
 
 /// Writes a line, without its newline.
-pub fn put_tally_words<K: Sink>(sink: &mut K, tally: Tally) -> Result<(), WriteFault>
-    ensures { Puts result (tally_words tally) (K.told sink.old) (K.told sink.new) }
+pub fn put_tally_words<K: Sink>(writer: &mut Writer<'_, K>, tally: Tally)
+    ensures { Writes K.told (tally_words tally) writer.old writer.new }
 {
-    written!(put_era(sink, Some(tally.era)));
-    written!(put_locked(sink, tally.locked));
-    put_runs(sink, tally)
-}
-
-/// Writes a line.
-fn put_tally_line<K: Sink>(sink: &mut K, tally: Tally) -> Result<(), WriteFault>
-    ensures { Puts result (tally_line tally) (K.told sink.old) (K.told sink.new) }
-{
-    written!(put_tally_words(sink, tally));
-    put_all(sink, b"\n")
+    put_era(writer, Some(tally.era));
+    put_locked(writer, tally.locked);
+    writer.pieces(&[
+        Piece::Text(b" runs "),
+        Piece::Number(u64::from(tally.runs)),
+        Piece::Text(b" seed "),
+        Piece::Number(tally.seed),
+    ]);
 }
 
 /// Writes all lines after the bound.
-fn put_tally_lines<K: Sink>(sink: &mut K, tallies: &[Tally]) -> Result<(), WriteFault>
-    ensures { Puts result (flat_map tally_line tallies.now) (K.told sink.old) (K.told sink.new) }
+pub fn put_tally_lines<K: Sink>(writer: &mut Writer<'_, K>, tallies: &[Tally])
+    ensures { Writes K.told (flat_map tally_line tallies.now) writer.old writer.new }
 {
     for i in 0..tallies.len() {
-        written!(put_tally_line(sink, tallies[i]));
+        put_tally_words(writer, tallies[i]);
+        writer.text(b"\n");
     }
-    Ok(())
-}
-
-/// Writes a sweep as `sweep` writes it.
-pub fn put_sweep<K: Sink>(sink: &mut K, bound: u64, tallies: &[Tally]) -> Result<(), WriteFault>
-    ensures { Puts result (sweep_text bound tallies.now) (K.told sink.old) (K.told sink.new) }
-{
-    written!(put_bound(sink, bound));
-    put_tally_lines(sink, tallies)
 }

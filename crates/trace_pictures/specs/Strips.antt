@@ -65,15 +65,14 @@ value_text spot (Some value) = number_text (middle spot) (spot_top spot + 13) va
 value_text spot None = cross spot
 
 -- a register within its group
-abbrev pub register_in : CellPosition → Register → List ℕ
-register_in spot register =
-    rectangle_front spot
-    ++ (ground register.value register.held
-    ++ (cover spot register.held ++ value_text spot register.value))
+abbrev pub register_in : CellPosition → Option ℕ → Held → List ℕ
+register_in spot value held =
+    rectangle_front spot ++ (ground value held ++ (cover spot held ++ value_text spot value))
 
 abbrev pub register_at : CellPosition → (node : ℕ) → Register → List ℕ
 register_at spot node register =
-    register_hover spot node register ++ (register_in spot register ++ codes "</g>\n")
+    register_hover spot node register
+    ++ (register_in spot register.value register.held ++ codes "</g>\n")
 
 -- ---- lines of a trace
 

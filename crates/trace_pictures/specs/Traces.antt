@@ -12,6 +12,7 @@ use Rattle.trace_pictures.specs.declared.traces.Register.{Register}
 use Rattle.trace_pictures.specs.declared.traces.Seen.{Seen}
 use Rattle.trace_pictures.specs.declared.traces.Seen.TheVariants.{Shows, Holds}
 use Rattle.trace_pictures.specs.declared.traces.Note.{Note}
+use Rattle.trace_pictures.specs.declared.traces.Trace.{Trace}
 
 -- ---- words
 
@@ -88,5 +89,5 @@ note_front first note = concat (
 abbrev pub note_line : (first : ℕ) → Note → List ℕ
 note_line first note = note_front first note ++ (seen_words note.seen ++ codes "\n")
 
-abbrev pub trace_text : (first : ℕ) → List Note → List ℕ
-trace_text first notes = flat_map (note_line first) notes
+abbrev pub trace_text : Trace → List ℕ
+trace_text trace = flat_map (note_line trace.frame.first) trace.notes.items

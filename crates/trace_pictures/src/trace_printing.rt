@@ -2,15 +2,14 @@
 
 ghost use Rattle.std.specs.Prelude.{◌≡◌};
 ghost use Rattle.std.specs.List.{flat_map};
-ghost use Rattle.texts.specs.Growth.{Puts};
-ghost use Rattle.trace_pictures.specs.Traces.{count_words, faulty_word, heard_or_nothing};
-ghost use Rattle.trace_pictures.specs.Traces.{heard_words, held_word, level_words, note_front};
-ghost use Rattle.trace_pictures.specs.Traces.{note_line, number_or_none, output_word, output_words};
+ghost use Rattle.edge_io.specs.Writing.{Writes};
+ghost use Rattle.trace_pictures.specs.Traces.{faulty_word, heard_or_nothing, heard_words};
+ghost use Rattle.trace_pictures.specs.Traces.{held_word, note_line, number_or_none, output_words};
 ghost use Rattle.trace_pictures.specs.Traces.{register_words, seen_words, trace_text, turn_word};
 ghost use Rattle.trace_pictures.specs.Traces.{vote_word};
 
 use crate::traces::{Heard, Held, Note, Output, Register, Seen, Turn};
-use edge_io::{Piece, Sink, WriteFault, put_all, put_number, put_pieces};
+use edge_io::{Piece, Sink, Writer};
 
 /// What stands after the id of a faulty node.
 pub fn faulty_word(is_faulty: bool) -> &'static [u8]
@@ -45,153 +44,98 @@ pub fn turn_word(turn: Turn) -> &'static [u8]
 }
 
 /// Writes a number, or that there is none.
-pub fn put_number_or_none<K: Sink>(sink: &mut K, n: Option<u64>) -> Result<(), WriteFault>
-    ensures { Puts result (number_or_none n) (K.told sink.old) (K.told sink.new) }
+pub fn put_number_or_none<K: Sink>(writer: &mut Writer<'_, K>, n: Option<u64>)
+    ensures { Writes K.told (number_or_none n) writer.old writer.new }
 {
     match n {
-        Some(n) => put_number(sink, n),
-        None => put_all(sink, b"none"),
+        Some(n) => writer.number(n),
+        None => writer.text(b"none"),
     }
-}
-
-/// Writes the vote of a block.
-fn put_vote<K: Sink>(sink: &mut K, vote: u64) -> Result<(), WriteFault>
-    ensures { Puts result (vote_word vote) (K.told sink.old) (K.told sink.new) }
-{
-    put_pieces(sink, &[Piece::Text(b" "), Piece::Number(vote)])
 }
 
 /// Writes the votes of all blocks.
-fn put_votes<K: Sink>(sink: &mut K, votes: &[u64]) -> Result<(), WriteFault>
-    ensures { Puts result (flat_map vote_word votes.now) (K.told sink.old) (K.told sink.new) }
+fn put_votes<K: Sink>(writer: &mut Writer<'_, K>, votes: &[u64])
+    ensures { Writes K.told (flat_map vote_word votes.now) writer.old writer.new }
 {
     for i in 0..votes.len() {
-        written!(put_vote(sink, votes[i]));
+        writer.pieces(&[Piece::Text(b" "), Piece::Number(votes[i])]);
     }
-    Ok(())
-}
-
-/// Writes what stands between the votes and the least value.
-fn put_counts<K: Sink>(sink: &mut K, heard: &Heard) -> Result<(), WriteFault>
-    ensures { Puts result (count_words heard.now) (K.told sink.old) (K.told sink.new) }
-{
-    put_pieces(
-        sink,
-        &[
-            Piece::Text(b" lead "),
-            Piece::Number(heard.lead),
-            Piece::Text(b" position "),
-            Piece::Number(heard.position),
-            Piece::Text(turn_word(heard.turn)),
-            Piece::Number(heard.king),
-            Piece::Text(b" same "),
-            Piece::Number(heard.same),
-            Piece::Text(b" least "),
-        ],
-    )
 }
 
 /// Writes what a node hears.
-fn put_heard<K: Sink>(sink: &mut K, heard: &Heard) -> Result<(), WriteFault>
-    ensures { Puts result (heard_words heard.now) (K.told sink.old) (K.told sink.new) }
+fn put_heard<K: Sink>(writer: &mut Writer<'_, K>, heard: &Heard)
+    ensures { Writes K.told (heard_words heard.now) writer.old writer.new }
 {
-    written!(put_all(sink, b" votes"));
-    written!(put_votes(sink, &heard.votes));
-    written!(put_counts(sink, heard));
-    put_number_or_none(sink, heard.least)
+    writer.text(b" votes");
+    put_votes(writer, &heard.votes);
+    writer.pieces(&[
+        Piece::Text(b" lead "),
+        Piece::Number(heard.lead),
+        Piece::Text(b" position "),
+        Piece::Number(heard.position),
+        Piece::Text(turn_word(heard.turn)),
+        Piece::Number(heard.king),
+        Piece::Text(b" same "),
+        Piece::Number(heard.same),
+        Piece::Text(b" least "),
+    ]);
+    put_number_or_none(writer, heard.least);
 }
 
 /// Writes what a node hears, if that is there.
-fn put_heard_or_nothing<K: Sink>(sink: &mut K, heard: &Option<Heard>) -> Result<(), WriteFault>
-    ensures { Puts result (heard_or_nothing heard.now) (K.told sink.old) (K.told sink.new) }
+fn put_heard_or_nothing<K: Sink>(writer: &mut Writer<'_, K>, heard: &Option<Heard>)
+    ensures { Writes K.told (heard_or_nothing heard.now) writer.old writer.new }
 {
     match heard {
-        Some(heard) => put_heard(sink, heard),
-        None => Ok(()),
+        Some(heard) => put_heard(writer, heard),
+        None => {}
     }
-}
-
-/// Writes an output.
-fn put_output_word<K: Sink>(sink: &mut K, output: u64) -> Result<(), WriteFault>
-    ensures { Puts result (output_word output) (K.told sink.old) (K.told sink.new) }
-{
-    put_pieces(sink, &[Piece::Text(b" output "), Piece::Number(output)])
 }
 
 /// Writes what a node shows.
-pub fn put_output<K: Sink>(sink: &mut K, shown: Output) -> Result<(), WriteFault>
-    ensures { Puts result (output_words shown) (K.told sink.old) (K.told sink.new) }
+pub fn put_output<K: Sink>(writer: &mut Writer<'_, K>, shown: Output)
+    ensures { Writes K.told (output_words shown) writer.old writer.new }
 {
-    written!(put_all(sink, b" number "));
-    written!(put_number_or_none(sink, shown.number));
-    put_output_word(sink, shown.output)
-}
-
-/// Writes which level a register is of.
-fn put_level<K: Sink>(sink: &mut K, level: u64) -> Result<(), WriteFault>
-    ensures { Puts result (level_words level) (K.told sink.old) (K.told sink.new) }
-{
-    put_pieces(
-        sink,
-        &[
-            Piece::Text(b" level "),
-            Piece::Number(level),
-            Piece::Text(b" value "),
-        ],
-    )
+    writer.text(b" number ");
+    put_number_or_none(writer, shown.number);
+    writer.pieces(&[Piece::Text(b" output "), Piece::Number(shown.output)]);
 }
 
 /// Writes a register.
-fn put_register<K: Sink>(sink: &mut K, register: &Register) -> Result<(), WriteFault>
-    ensures { Puts result (register_words register.now) (K.told sink.old) (K.told sink.new) }
+fn put_register<K: Sink>(writer: &mut Writer<'_, K>, register: &Register)
+    ensures { Writes K.told (register_words register.now) writer.old writer.new }
 {
-    written!(put_level(sink, register.level));
-    written!(put_number_or_none(sink, register.value));
-    written!(put_all(sink, held_word(register.held)));
-    put_heard_or_nothing(sink, &register.heard)
+    writer.pieces(&[
+        Piece::Text(b" level "),
+        Piece::Number(register.level),
+        Piece::Text(b" value "),
+    ]);
+    put_number_or_none(writer, register.value);
+    writer.text(held_word(register.held));
+    put_heard_or_nothing(writer, &register.heard);
 }
 
 /// Writes what a line is about.
-fn put_seen<K: Sink>(sink: &mut K, seen: &Seen) -> Result<(), WriteFault>
-    ensures { Puts result (seen_words seen.now) (K.told sink.old) (K.told sink.new) }
+fn put_seen<K: Sink>(writer: &mut Writer<'_, K>, seen: &Seen)
+    ensures { Writes K.told (seen_words seen.now) writer.old writer.new }
 {
     match seen {
-        Seen::Shows(shown) => put_output(sink, *shown),
-        Seen::Holds(register) => put_register(sink, register),
+        Seen::Shows(shown) => put_output(writer, *shown),
+        Seen::Holds(register) => put_register(writer, register),
     }
 }
 
-/// Writes the configuration and the node of a line.
-fn put_front<K: Sink>(sink: &mut K, first: u32, note: &Note) -> Result<(), WriteFault>
-    ensures { Puts result (note_front first note.now) (K.told sink.old) (K.told sink.new) }
+/// Writes a line of a trace.
+pub fn put_note<K: Sink>(writer: &mut Writer<'_, K>, first: u32, note: &Note)
+    ensures { Writes K.told (note_line first note.now) writer.old writer.new }
 {
-    put_pieces(
-        sink,
-        &[
-            Piece::Text(b"at "),
-            Piece::Number(u64::from(first) + u64::from(note.column)),
-            Piece::Text(b" node "),
-            Piece::Number(note.node),
-            Piece::Text(faulty_word(note.is_faulty)),
-        ],
-    )
-}
-
-/// Writes a line.
-fn put_note<K: Sink>(sink: &mut K, first: u32, note: &Note) -> Result<(), WriteFault>
-    ensures { Puts result (note_line first note.now) (K.told sink.old) (K.told sink.new) }
-{
-    written!(put_front(sink, first, note));
-    written!(put_seen(sink, &note.seen));
-    put_all(sink, b"\n")
-}
-
-/// Writes the lines of a trace as `trace` writes them.
-pub fn put_trace<K: Sink>(sink: &mut K, first: u32, notes: &[Note]) -> Result<(), WriteFault>
-    ensures { Puts result (trace_text first notes.now) (K.told sink.old) (K.told sink.new) }
-{
-    for note in notes {
-        written!(put_note(sink, first, note));
-    }
-    Ok(())
+    writer.pieces(&[
+        Piece::Text(b"at "),
+        Piece::Number(u64::from(first) + u64::from(note.column)),
+        Piece::Text(b" node "),
+        Piece::Number(note.node),
+        Piece::Text(faulty_word(note.is_faulty)),
+    ]);
+    put_seen(writer, &note.seen);
+    writer.text(b"\n");
 }

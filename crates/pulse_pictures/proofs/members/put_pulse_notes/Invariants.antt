@@ -1,10 +1,10 @@
 use Rattle.std.proofs.Common.{take}
 use Rattle.std.specs.List.{flat_map}
-use Rattle.texts.specs.Growth.{Wrote}
+use Rattle.edge_io.specs.Writing.{Writes}
 use Rattle.pulse_pictures.specs.Members.{pulse_note_picture}
 use Rattle.pulse_pictures.proofs.members.put_pulse_notes.Given as goal
 
 abbrev pub invariant-loop-i : goal.invariant-loop-i
 invariant-loop-i g l =
-    Wrote (flat_map (pulse_note_picture l.frame) (take l.i l.notes))
-    (g.K.Sink.told l.fn.sink) (g.K.Sink.told l.sink)
+    Writes g.K.Sink.told (flat_map (pulse_note_picture l.frame) (take l.i l.notes))
+    l.fn.writer l.writer

@@ -1,12 +1,19 @@
-use Rattle.texts.proofs.Growth.{cut_more, puts_then}
-use Rattle.pulse_pictures.specs.Members.{left_bar}
+use Rattle.edge_io.proofs.Writing.{writes_then}
 use Rattle.pulse_pictures.proofs.pulse_bars.put_both_bars.Goals as goal
-
-pub returns-in-Err : goal.returns-in-Err
-returns-in-Err g c =
-    cut_more _ _ (left_bar c.args.spot c.args.hearing) _ c.in-Err.ensures
 
 pub returns : goal.returns
 returns g c =
-    puts_then _ _ _ _ (left_bar c.args.spot c.args.hearing) _ c.in-Ok.ensures
-    c.put_right_bar.ensures
+    writes_then
+    (rw (
+      c.left-x.ensures.value,
+      c.tint-fill.ensures,
+      c.rim-frame.ensures,
+      c.fires_for.ensures,
+    ) at c.put_bar.ensures)
+    (rw (
+      c.left-x.ensures.value,
+      c.width.ensures.value,
+      c.tint-fill-2.ensures,
+      c.rim-frame-2.ensures,
+      c.fires_for-2.ensures,
+    ) at c.put_bar-2.ensures)

@@ -4,4 +4,4 @@ pub returns-in-Some : goal.returns-in-Some
 returns-in-Some g c =
     rw c.in-Some.is
     (rw (c.from.ensures, c.turn_word.ensures, c.turn_of.ensures, c.king_of.ensures)
-    at c.put_pieces.ensures)
+    at c.pieces.ensures)

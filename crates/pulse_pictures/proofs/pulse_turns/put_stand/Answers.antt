@@ -1,11 +1,19 @@
-use Rattle.std.proofs.Common.{subst}
-use Rattle.texts.specs.Growth.{Puts}
-use Rattle.picture_parts.specs.declared.frames.CellPosition.{CellPosition}
-use Rattle.pulse_pictures.specs.Members.{stand_at}
+use Rattle.edge_io.proofs.Writing.{writes_then}
 use Rattle.pulse_pictures.proofs.pulse_turns.put_stand.Goals as goal
 
 pub returns : goal.returns
 returns g c =
-    subst (λ (spot : CellPosition). Puts c.put_stand_at.result (stand_at spot c.args.stand)
-    (g.K.Sink.told c.args.sink.now) (g.K.Sink.told c.put_stand_at.new.sink))
-    c.stand_spot.ensures c.put_stand_at.ensures
+    let turn = c.turn_of-turn.ensures in
+    let king = c.king_of-king.ensures in
+    writes_then
+    (rw (
+      c.configuration.ensures,
+      c.from.ensures,
+      c.from-2.ensures,
+      c.from-3.ensures,
+      c.turn_word.ensures,
+      turn,
+      king,
+    ) at c.pieces.ensures)
+    (writes_then (rw (c.share.ensures, turn, c.edge.ensures) at c.put_gold_part.ensures)
+    (rw king at c.put_king.ensures))

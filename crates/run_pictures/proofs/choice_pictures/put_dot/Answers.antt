@@ -7,4 +7,4 @@ returns g c =
       c.point_top-y.ensures.value,
       c.numbers_top-top.ensures.value,
       c.from.ensures,
-    ) at c.put_pieces.ensures
+    ) at c.pieces.ensures

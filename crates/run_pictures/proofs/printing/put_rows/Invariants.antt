@@ -1,10 +1,10 @@
 use Rattle.std.proofs.Common.{take}
 use Rattle.std.specs.List.{flat_map}
-use Rattle.texts.specs.Growth.{Wrote}
+use Rattle.edge_io.specs.Writing.{Writes}
 use Rattle.run_pictures.specs.Charts.{cell_words}
 use Rattle.run_pictures.proofs.printing.put_rows.Given as goal
 
 abbrev pub invariant-loop-i : goal.invariant-loop-i
 invariant-loop-i g l =
-    Wrote (flat_map (cell_words l.first l.nodes) (take l.i l.cells))
-    (g.K.Sink.told l.fn.sink) (g.K.Sink.told l.sink)
+    Writes g.K.Sink.told (flat_map (cell_words l.first l.nodes) (take l.i l.cells))
+    l.fn.writer l.writer

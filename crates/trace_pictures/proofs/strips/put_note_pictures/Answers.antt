@@ -1,25 +1,14 @@
-use Rattle.std.proofs.Common.{subst}
-use Rattle.texts.specs.Growth.{Cut, Wrote}
-use Rattle.texts.proofs.Growth.{wrote_none, wrote_at, cut_at}
-use Rattle.trace_pictures.specs.declared.traces.Note.{Note}
+use Rattle.std.proofs.Common.{ap}
+use Rattle.edge_io.proofs.Writing.{writes_none, writes_at, writes_is}
 use Rattle.trace_pictures.specs.Strips.{note_picture}
 use Rattle.trace_pictures.proofs.strips.put_note_pictures.Goals as goal
 
 pub loop-note-init : goal.loop-note-init
-loop-note-init g c = wrote_none _
-
-pub returns-in-Err : goal.returns-in-Err
-returns-in-Err g c =
-    cut_at (note_picture c.args.frame) c.args.notes.now c.loop-note.note-index c.note-item.result _
-    _ _
-    c.loop-note-test.true c.loop-note.invariant
-    (subst (λ (n : Note). Cut (note_picture c.args.frame n) (g.K.Sink.told c.loop-note.sink)
-    (g.K.Sink.told c.put_note_picture.new.sink)) c.note-item.is c.in-Err.ensures)
+loop-note-init g c = writes_none
 
 pub loop-note-preserved : goal.loop-note-preserved
 loop-note-preserved g c =
-    wrote_at (note_picture c.args.frame) c.args.notes.now c.loop-note.note-index c.note-item.result
-    _ _ _
+    let picture = note_picture c.args.frame in
+    writes_at picture c.args.notes.now c.loop-note.note-index c.note-item.result
     c.loop-note-test.true c.loop-note.invariant
-    (subst (λ (n : Note). Wrote (note_picture c.args.frame n) (g.K.Sink.told c.loop-note.sink)
-    (g.K.Sink.told c.put_note_picture.new.sink)) c.note-item.is c.in-Ok.ensures)
+    (writes_is (ap picture c.note-item.is) c.put_note_picture.ensures)

@@ -1,10 +1,10 @@
 use Rattle.std.proofs.Common.{take}
 use Rattle.std.specs.List.{flat_map}
-use Rattle.texts.specs.Growth.{Wrote}
+use Rattle.edge_io.specs.Writing.{Writes}
 use Rattle.trace_pictures.specs.Strips.{note_picture}
 use Rattle.trace_pictures.proofs.strips.put_note_pictures.Given as goal
 
 abbrev pub invariant-loop-note : goal.invariant-loop-note
 invariant-loop-note g l =
-    Wrote (flat_map (note_picture l.frame) (take l.note-index l.notes))
-    (g.K.Sink.told l.fn.sink) (g.K.Sink.told l.sink)
+    Writes g.K.Sink.told (flat_map (note_picture l.frame) (take l.note-index l.notes))
+    l.fn.writer l.writer

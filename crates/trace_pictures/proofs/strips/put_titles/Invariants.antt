@@ -1,10 +1,9 @@
 use Rattle.std.proofs.Common.{take}
 use Rattle.std.specs.List.{flat_map}
-use Rattle.texts.specs.Growth.{Wrote}
+use Rattle.edge_io.specs.Writing.{Writes}
 use Rattle.trace_pictures.specs.Strips.{title_picture}
 use Rattle.trace_pictures.proofs.strips.put_titles.Given as goal
 
 abbrev pub invariant-loop-i : goal.invariant-loop-i
 invariant-loop-i g l =
-    Wrote (flat_map (title_picture l.frame) (take l.i l.titles))
-    (g.K.Sink.told l.fn.sink) (g.K.Sink.told l.sink)
+    Writes g.K.Sink.told (flat_map (title_picture l.frame) (take l.i l.titles)) l.fn.writer l.writer

@@ -1,11 +1,8 @@
-use Rattle.std.proofs.Common.{subst}
-use Rattle.texts.specs.Growth.{Puts}
-use Rattle.picture_parts.specs.declared.frames.CellPosition.{CellPosition}
-use Rattle.trace_pictures.specs.Strips.{reign_at}
+use Rattle.edge_io.proofs.Writing.{writes_then}
 use Rattle.trace_pictures.proofs.turns.put_reign.Goals as goal
 
 pub returns : goal.returns
 returns g c =
-    subst (λ (spot : CellPosition). Puts c.put_reign_at.result (reign_at spot c.args.reign)
-    (g.K.Sink.told c.args.sink.now) (g.K.Sink.told c.put_reign_at.new.sink))
-    c.reign_spot.ensures c.put_reign_at.ensures
+    writes_then (rw (c.configuration.ensures, c.turn_word.ensures) at c.pieces.ensures)
+    (writes_then (rw (c.share.ensures, c.edge.ensures) at c.put_gold_part.ensures)
+    c.put_king.ensures)
