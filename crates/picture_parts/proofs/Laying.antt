@@ -1,17 +1,10 @@
 -- Places that are tested one after the other.
 use Rattle.std.proofs.Common.{◌≡◌, ℕ, ◌+◌, ◌*◌, ◌^◌, ◌<◌, List, [], ◌∷◌, ◌++◌, length, map, take}
-use Rattle.std.proofs.Common.{get_or, sym, ap, ap₂, ◌∙◌, arith}
+use Rattle.std.proofs.Common.{get_or, sym, ap₂, ◌∙◌, arith}
 use Rattle.std.specs.List.{range_with_len}
-use Rattle.std.proofs.lemmas.List.{map_more, map-id}
-use Rattle.std.proofs.lemmas.List.FromFn.{map-range_with_len_more}
+use Rattle.std.proofs.lemmas.List.{map_more}
 use Rattle.std.proofs.lemmas.Nat.{mul-le}
-
-range_more : (k : ℕ) → range_with_len 0 (k + 1) ≡ range_with_len 0 k ++ k ∷ []
-range_more k =
-    let id : ℕ → ℕ = λ x. x in
-    sym (map-id (range_with_len 0 (k + 1)))
-    ∙ (map-range_with_len_more id 0 k k (omega (arith))
-    ∙ ap (λ xs. xs ++ k ∷ []) (map-id (range_with_len 0 k)))
+use Rattle.texts.proofs.Ranges.{range_more}
 
 -- one more that stands in its place
 pub one_more : {X : Type 0} (place : X → ℕ) (xs : List X) (k : ℕ) (d : X) → k < length xs
@@ -19,7 +12,7 @@ pub one_more : {X : Type 0} (place : X → ℕ) (xs : List X) (k : ℕ) (d : X) 
     → map place (take (k + 1) xs) ≡ range_with_len 0 (k + 1)
 one_more place xs k d lt before here =
     map_more place xs k d lt
-    ∙ (ap₂ (λ ys x. ys ++ x ∷ []) before here ∙ sym (range_more k))
+    ∙ (ap₂ (λ ys x. ys ++ x ∷ []) before here ∙ sym (range_more 0 k k (omega arith)))
 
 -- a row and a node of 256 make a place
 pub place_fits : (row nodes node : ℕ) → row < 2 ^ 32 → nodes < 2 ^ 16 → node < 2 ^ 16
