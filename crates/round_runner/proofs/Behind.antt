@@ -21,21 +21,18 @@ put_behind old new v out state put is =
 -- the room is still that of the round, after a state was written into it
 pub ready_behind : (plan : Plan) (script : Script) (room : RoundBuffers) (out : State)
     → IsReady plan script room → length out.registers ≡ script.shape.depth
-    → IsReady plan script (record room { out = out })
+    → IsReady plan script (record room { step = record room.step { out = out } })
 ready_behind plan script room out ready deep = record {
   noise = ready.noise;
   heard = ready.heard;
-  told = ready.told;
-  lies = ready.lies;
-  shared = ready.shared;
   work = ready.work;
-  out = deep;
+  step = record { lies = ready.step.lies; shared = ready.step.shared; out = deep };
 }
 
 pub gathered_behind : {Kept : Type 0} (round : Round) (layer : Layer Kept) (states : Pack)
     (room : RoundBuffers) (out : State) → IsGathered round layer states room
     → length out.registers ≡ round.script.now.shape.depth
-    → IsGathered round layer states (record room { out = out })
+    → IsGathered round layer states (record room { step = record room.step { out = out } })
 gathered_behind round layer states room out gathered deep =
     let set = gathered.set in
     record {

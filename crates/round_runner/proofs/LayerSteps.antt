@@ -1,9 +1,7 @@
 -- A node's step: the counter's, and after it that of a layer that hears what the node hears.
-use Rattle.std.proofs.Common.{◌≡◌, ℕ, ◌+◌, ◌<◌, List, ◌++◌, length, drop, All, sym, ap, ◌∙◌, subst}
+use Rattle.std.proofs.Common.{◌≡◌, ℕ, ◌+◌, ◌<◌, List, length, All, sym, ap, ◌∙◌, subst}
 use Rattle.std.proofs.Common.{arith}
-use Rattle.std.proofs.lemmas.List.{length-append, length-drop}
 use Rattle.std.proofs.lemmas.List.Elements.{All-weaker}
-use Rattle.sync_types.specs.declared.states.Reg.{Reg}
 use Rattle.sync_types.specs.States.{State, zero_state}
 use Rattle.construction.specs.Plans.{Plan, plan_depth, plan_nodes}
 use Rattle.construction.specs.Steps.{state_of, step_of}
@@ -29,7 +27,7 @@ use Rattle.machine_runner.proofs.HeardAt.{heard_long}
 use Rattle.round_runner.proofs.HeardAt.{heard_counts, heard_deep, heard_values}
 use Rattle.layer_laws.proofs.Layered.{layered_written}
 use Rattle.round_runner.proofs.Layering.{same_step, shown_itself}
-use Rattle.round_runner.proofs.Liars.{deep_lies}
+use Rattle.round_runner.proofs.Liars.{deep_states}
 use Rattle.machine_runner.proofs.Places.{all_places}
 
 -- a node of a script steps from a configuration of states in range, with a layer above
@@ -149,7 +147,7 @@ module _ {Kept : Type 0} (plan : Plan) (script : Script) (layer : Layer Kept) (k
           size = long ∙ nodes ∙ sym (over some).nodes;
           deep = All-weaker (λ (s : State). length s.registers ≡ script.shape.depth)
               (HasRegisters layer) (λ s deep. omega (arith, deep, depth, fit)) items
-              (deep_lies script items are);
+              (deep_states script items are);
           range = laid_values are;
         })
 
@@ -180,23 +178,6 @@ module _ {Kept : Type 0} (plan : Plan) (script : Script) (layer : Layer Kept) (k
         heard
         enough
         ∙ ap (λ (o : ℕ). after layer kept v o heard) (sym shows ∙ shows_it)
-
-  -- the counter's step leaves room for that of the layer
-  pub counted_room : (before counted : State)
-      → length before.registers ≡ script.shape.depth
-      → counted ≡ written (plan_depth plan) (step_of plan v heard) before
-      → length counted.registers ≡ script.shape.depth
-  counted_room before counted room is =
-      let next : List Reg = (step_of plan v heard).registers in
-      let deep : length next ≡ plan_depth plan =
-      (plan_sizes plan can.accepted).deep v heard (omega (arith, node, nodes))
-      (heard_long script t config v ∙ nodes) in
-      let fit = fits.depth in
-      let both = length-append next (drop (plan_depth plan) before.registers) in
-      let rest = length-drop (plan_depth plan) before.registers in
-      let size : length (next ++ drop (plan_depth plan) before.registers)
-      ≡ script.shape.depth = omega (arith, both, rest, deep, fit, room) in
-      ap (λ (s : State). length s.registers) is ∙ size
 
   -- written after the counter's step it makes the new state
   pub out_is : (before counted out : State)

@@ -1,12 +1,10 @@
 pub mod Zeros
 pub mod Behind
 pub mod Costs
-pub mod Counted
 pub mod CountsOn
 pub mod EraRuns
 pub mod FirstLocked
 pub mod FitsCounter
-pub mod FewLie
 pub mod Fitting
 pub mod Grown
 pub mod HeardAt

@@ -15,6 +15,13 @@ use Rattle.round_runner.specs.Played.{starts}
 use Rattle.round_runner.specs.Locks.{is_locked}
 use Rattle.round_runner.specs.Runners.{IsPlayableOn, Running, begun}
 
+-- a room with other noise and another state written
+abbrev with_both : RoundBuffers → List ℕ → State → RoundBuffers
+with_both room noise out = record room {
+  noise = noise;
+  step = record room.step { out = out };
+}
+
 module _ (script : Script) (key : List ℕ) where
   pub right_still : {Kept : Type 0} (plan : Plan) (layer : Layer Kept)
       → IsPlayableOn plan layer script
@@ -29,17 +36,12 @@ module _ (script : Script) (key : List ℕ) where
   pub ready_still : (plan : Plan) (room : RoundBuffers) (noise : List ℕ) (out : State)
       → IsReady plan script room → noise ≡ key
       → length out.registers ≡ script.shape.depth
-      → IsReady plan (rekeyed script key) (record room { noise = noise; out = out })
+      → IsReady plan (rekeyed script key) (with_both room noise out)
   ready_still plan room noise out ready is deep = record {
     noise = is;
     heard = record { size = ready.heard.size; deep = ready.heard.deep };
-    told = ready.told;
-    lies = λ k d lt.
-        let some = ready.lies k d lt in
-        record { node = some.node; inside = some.inside; range = some.range };
-    shared = ready.shared;
     work = ready.work;
-    out = deep;
+    step = record { lies = ready.step.lies; shared = ready.step.shared; out = deep };
   }
 
   -- what a runner keeps, when it begins anew
@@ -49,8 +51,7 @@ module _ (script : Script) (key : List ℕ) where
       → IsValidRunner plan script layer room states locks at era → noise ≡ key
       → length out.registers ≡ script.shape.depth → now.shape ≡ states.shape
       → length now.current ≡ script.nodes → length begun ≡ length locks
-      → IsValidRunner plan (rekeyed script key) layer
-      (record room { noise = noise; out = out }) now begun
+      → IsValidRunner plan (rekeyed script key) layer (with_both room noise out) now begun
       0 0
   kept_at_first plan layer room noise out states now locks begun at era kept is deep shape size
       long =
@@ -75,12 +76,11 @@ module _ (script : Script) (key : List ℕ) where
       → IsValidRunner plan script layer room states locks at era → noise ≡ key
       → length out.registers ≡ script.shape.depth → now.shape ≡ states.shape
       → length now.current ≡ script.nodes → length begun ≡ length locks
-      → IsValidRunner plan other layer (record room { noise = noise; out = out }) now begun 0 0
+      → IsValidRunner plan other layer (with_both room noise out) now begun 0 0
   kept_anew plan layer room noise out states now locks begun at era other same kept is deep shape
       size long =
       subst
-      (λ (s : Script). IsValidRunner plan s layer
-      (record room { noise = noise; out = out }) now begun
+      (λ (s : Script). IsValidRunner plan s layer (with_both room noise out) now begun
       0 0) (sym same)
       (kept_at_first plan layer room noise out states now locks begun at era kept is deep shape size
       long)

@@ -32,7 +32,7 @@ module _ {Kept : Type 0} (round : Round) (layer now : Layer Kept) (same : now �
       → IsGathered round now next room
   gathered_on states next room shape current gathered = record {
     set = set_on states next room room shape current gathered.set.ready gathered.set;
-    stands = subst (λ (xs : List State). room.shared
+    stands = subst (λ (xs : List State). room.step.shared
         ≡ stands_for round.tower.now xs (faulty_at round.script.now round.t)) (sym current)
         gathered.stands;
     laid = λ some. subst (λ (xs : List State). IsLaid round.script.now round.t xs room.heard.items)

@@ -1,19 +1,24 @@
 -- What all receivers of a round share, and what the liars tell one of them, are what it hears.
-use Rattle.std.proofs.Common.{◌≡◌, ℕ, ◌<◌, ◌≤◌, Bool, true, cond, if◌then◌else◌, List, length, map}
-use Rattle.std.proofs.Common.{take, refl, sym, ap, ◌∙◌, subst, arith}
+use Rattle.std.proofs.Common.{◌≡◌, ℕ, ◌<◌, ◌≤◌, Bool, true, cond, if◌then◌else◌, List, ◌++◌, length}
+use Rattle.std.proofs.Common.{map}
+use Rattle.std.proofs.Common.{take, drop, refl, sym, ap, ◌∙◌, subst, arith}
 use Rattle.std.specs.Prelude.{◌==◌, slice_index}
 use Rattle.std.specs.List.{range_with_len}
 use Rattle.std.specs.List.Sorted.{IsStrictlyIncreasing}
 use Rattle.std.proofs.lemmas.Bool.{eq-eqb}
 use Rattle.std.proofs.lemmas.List.{length-map, get_or-map, length-take-le, get_or-take}
+use Rattle.std.proofs.lemmas.List.{length-append, length-drop}
 use Rattle.std.proofs.lemmas.List.FromFn.{length-map-range_with_len}
 use Rattle.sync_types.specs.FaultSets.{is_in}
 use Rattle.sync_types.specs.States.{State, zero_state}
-use Rattle.construction.specs.Plans.{Plan, plan_depth}
+use Rattle.sync_types.specs.declared.states.Reg.{Reg}
+use Rattle.construction.specs.Plans.{Plan, plan_depth, plan_nodes}
 use Rattle.construction.specs.Runs.{heard_by}
 use Rattle.construction.specs.Steps.{state_of, step_of}
+use Rattle.plan_numbers.specs.Premises.{IsAccepted}
+use Rattle.plan_laws.proofs.PlanCounter.{plan_sizes}
 use Rattle.plan_laws.proofs.Ranges.{state_of-cut}
-use Rattle.counter_core.specs.Meanings.{cut}
+use Rattle.counter_core.specs.Meanings.{cut, written}
 use Rattle.counter_core.proofs.Heeded.{place_of}
 use Rattle.shared_board.specs.Sharing.{Shares, place_among, heard_at, heard_with, stands_for, Tells}
 use Rattle.shared_board.proofs.Ids.{place_of_id}
@@ -122,3 +127,17 @@ module _ (plan : Plan) (n : ℕ) (ids : List ℕ) (lie : ℕ → ℕ → State) 
         ∙ sym (true_at j (omega (arith, high, within))))
         ∙ step_cut plan v ids true_lies config
         ∙ ap (step_of plan v) truly_heard
+
+-- what is written before the further registers of a state keeps its depth
+pub written_long : (plan : Plan) → IsAccepted plan → (v : ℕ) → v < plan_nodes plan
+    → (heard : List State) → length heard ≡ plan_nodes plan → (out : State) (depth : ℕ)
+    → length out.registers ≡ depth → plan_depth plan ≤ depth
+    → length (written (plan_depth plan) (step_of plan v heard) out).registers ≡ depth
+written_long plan accepted v node heard size out depth long room =
+    let next : List Reg = (step_of plan v heard).registers in
+    let deep = (plan_sizes plan accepted).deep v heard node size in
+    let both = length-append next (drop (plan_depth plan) out.registers) in
+    let rest = length-drop (plan_depth plan) out.registers in
+    let size : length (next ++ drop (plan_depth plan) out.registers) ≡ depth =
+    omega (arith, both, rest, deep, long, room) in
+    size

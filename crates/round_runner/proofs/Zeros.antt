@@ -1,28 +1,36 @@
 -- Lists of zero states.
-use Rattle.std.proofs.Common.{◌≡◌, ℕ, ◌<◌, List, length, replicate, get_or, sym, ap, ◌∙◌, subst}
-use Rattle.std.proofs.Common.{arith}
-use Rattle.std.proofs.lemmas.List.{get_or-replicate, length-replicate}
-use Rattle.sync_types.specs.States.{State, zero_state}
-use Rattle.adversary_script.specs.Scripts.{Script}
-use Rattle.state_codec.specs.Shapes.{IsShape, fields_at}
-use Rattle.state_codec.specs.Ranges.{InRange}
-use Rattle.adversary_script.proofs.LiesInRange.{zero_of_node}
-use Rattle.round_runner.specs.Hearing.{AreOfNodes}
+use Rattle.std.proofs.Common.{◌≡◌, ℕ, ◌≤◌, List, length, replicate, sym, subst, arith}
+use Rattle.std.proofs.lemmas.List.{length-replicate, take-replicate}
+use Rattle.std.proofs.lemmas.List.Elements.{All-replicate}
+use Rattle.sync_types.specs.States.{State, zero_state, zero_register}
+use Rattle.sync_types.specs.declared.states.Reg.{Reg}
+use Rattle.construction.specs.Plans.{Plan, plan_nodes, plan_depth}
+use Rattle.plan_numbers.specs.Premises.{IsAccepted}
+use Rattle.plan_laws.specs.PlanMeaning.{IsInRange, InRange}
+use Rattle.plan_laws.proofs.PlanCounter.{plan_zero}
+use Rattle.plan_laws.proofs.Ranges.{range_from_cut}
+use Rattle.round_runner.specs.Hearing.{AreLies}
 
--- each is a state of some node, whatever node it is
-pub zeros_of_nodes : (script : Script) (n depth : ℕ) (states : List State) → IsShape script.shape
-    → depth ≡ script.shape.depth → n ≡ script.nodes
-    → states ≡ replicate n (zero_state depth) → AreOfNodes script states
-zeros_of_nodes script n depth states sound deep many is = λ k d lt.
-    let size = length-replicate n (zero_state depth) in
-    let same = ap (λ (xs : List State). length xs) is in
-    let inside : k < n = omega (arith, lt, size, same) in
-    let at : get_or states k d ≡ zero_state script.shape.depth =
-    ap (λ (xs : List State). get_or xs k d) is ∙ get_or-replicate n k (zero_state depth) d inside
-    ∙ ap zero_state deep in
-    record {
-      node = k;
-      inside = omega (arith, inside, many);
-      range =
-          subst (InRange (fields_at script.shape k)) (sym at) (zero_of_node script.shape k sound);
-    }
+module _ (plan : Plan) (accepted : IsAccepted plan) (depth : ℕ) (room : plan_depth plan ≤ depth)
+  where
+    -- the counter takes a zero state, also with further registers
+    zero_in_range : IsInRange plan (zero_state depth)
+    zero_in_range =
+        let zero = plan_zero plan accepted in
+        record {
+          x = zero.x;
+          values = range_from_cut plan.levels (plan_depth plan) (omega arith) (zero_state depth)
+              (subst (λ (registers : List Reg). InRange plan.levels (record {
+                x = 0;
+                registers = registers;
+              })) (sym (take-replicate (plan_depth plan) depth zero_register room)) zero.values);
+        }
+
+    pub zero_lies : (lies : List State) → lies ≡ replicate (plan_nodes plan) (zero_state depth)
+        → AreLies plan depth lies
+    zero_lies lies is = subst (AreLies plan depth) (sym is) (record {
+      size = length-replicate (plan_nodes plan) (zero_state depth);
+      deep = All-replicate (λ (s : State). length s.registers ≡ depth) (plan_nodes plan)
+          (zero_state depth) (length-replicate depth zero_register);
+      range = All-replicate (IsInRange plan) (plan_nodes plan) (zero_state depth) zero_in_range;
+    })

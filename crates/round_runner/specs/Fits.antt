@@ -4,13 +4,12 @@ use Rattle.std.specs.Prelude.{None, IfSome}
 use Rattle.std.proofs.Props.{props}
 use Rattle.sync_types.specs.States.{State, register_at}
 use Rattle.sync_types.specs.declared.states.Reg.{Reg}
-use Rattle.construction.specs.Plans.{Level, Plan, plan_depth}
+use Rattle.construction.specs.Plans.{Level, Plan, plan_depth, plan_nodes}
 use Rattle.plan_laws.specs.PlanMeaning.{InRange as IsCounted, IsInRange}
 use Rattle.state_codec.specs.Shapes.{Shape, fields_at, shape_nodes}
 use Rattle.state_codec.specs.Ranges.{InRange}
 use Rattle.counter_core.specs.Meanings.{Meaning}
 use Rattle.counter_core.specs.Overlays.{Layer, HasValues, AreBelow}
-use Rattle.adversary_script.specs.Scripts.{Script}
 
 -- A state of a node of the shape is one that the counter and the layer take, and a step of the node
 -- with registers of the layer after its own gives a state of it.
@@ -29,11 +28,11 @@ pub record ShapeFits {Kept : Type 0} (shape : Shape) (counter : Meaning) (in_ran
         registers = (counter.next v heard).registers ++ registers;
       })
 
--- the counter of a plan takes the states of a script
-pub record TakesStates (plan : Plan) (script : Script) : Type 0 where
-  pub deep : plan_depth plan ≤ script.shape.depth
-  pub counts : (v : ℕ) → v < script.nodes → (s : State)
-      → InRange (fields_at script.shape v) s → IsInRange plan s
+-- the counter of a plan takes the states of a shape
+pub record TakesStates (plan : Plan) (shape : Shape) : Type 0 where
+  pub deep : plan_depth plan ≤ shape.depth
+  pub counts : (v : ℕ) → v < plan_nodes plan → (s : State)
+      → InRange (fields_at shape v) s → IsInRange plan s
 
 below_prop : (modulus : ℕ) (value : Option ℕ) → IsProp (IfSome value (λ a. a < modulus))
 below_prop modulus None = Prim.hlevel props
@@ -47,5 +46,5 @@ range_prop (level ∷ below) state =
     Prim.hlevel (props, lower, value)
 
 -- it has one proof at most
-pub takes_prop : (plan : Plan) (script : Script) → IsProp (TakesStates plan script)
-takes_prop plan script = Prim.hlevel (props, range_prop)
+pub takes_prop : {plan : Plan} {shape : Shape} → IsProp (TakesStates plan shape)
+takes_prop = Prim.hlevel (props, range_prop)

@@ -7,6 +7,7 @@
 #![tactic(auto)]
 
 mod growing;
+mod hearers;
 mod hearing;
 mod knowing;
 pub mod laws;
@@ -18,11 +19,14 @@ mod runners;
 mod skipping;
 mod stepping;
 mod telling;
+mod told_steps;
 mod turns;
 mod until_known;
 
+pub use hearers::Hearer;
 pub use locks::is_locked;
 pub use rounds::beginning_at;
 pub use runners::Runner;
 pub use stepping::shown_at;
-pub use telling::place_of;
+pub use telling::Lies;
+pub use told_steps::{StepBuffers, step_told};

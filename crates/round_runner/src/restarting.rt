@@ -21,7 +21,7 @@ impl<O: Overlay> Runner<O> {
         start_all(
             &self.script,
             &mut self.room.noise,
-            &mut self.room.out,
+            &mut self.room.step.out,
             &mut self.states,
         );
         self.at = 0;

@@ -74,7 +74,7 @@ pub fn step_all<O: Overlay, G: Ledger>(
     lay_where(overlay.extra() > 0, round, states, &mut room.heard);
     round
         .tower
-        .gather(states, round.faulty, &mut room.shared, steps);
+        .gather(states, round.faulty, &mut room.step.shared, steps);
     for v in 0..states.nodes() {
         let turn = NodeStep {
             round: &*round,
@@ -82,7 +82,13 @@ pub fn step_all<O: Overlay, G: Ledger>(
             v,
         };
         step_with(&turn, overlay, room, steps);
-        put_hit(round.script, round.t + 1, round.begins, v, &mut room.out);
-        states.put(v, &room.out);
+        put_hit(
+            round.script,
+            round.t + 1,
+            round.begins,
+            v,
+            &mut room.step.out,
+        );
+        states.put(v, &room.step.out);
     }
 }

@@ -1,11 +1,11 @@
-ghost use Rattle.std.specs.Prelude.{◌≡◌, length, IfOk};
-ghost use Rattle.construction.specs.Plans.{plan_nodes};
-ghost use Rattle.round_runner.specs.Hearing.{AreOfNodes};
+ghost use Rattle.std.specs.Prelude.{◌≡◌, ◌≤◌, IfOk};
+ghost use Rattle.construction.specs.Plans.{plan_depth, plan_nodes};
 ghost use Rattle.round_runner.specs.Rooms.{IsReady};
 
 use crate::locks::{is_locked, known_or_locked};
 use crate::rounds::step_all;
 use crate::stepping::{RoundBuffers, shown_at};
+use crate::told_steps::StepBuffers;
 use crate::turns::Round;
 use adversary_script::{Noise, Script};
 use counter_core::{Counter, Overlay};
@@ -73,17 +73,6 @@ impl<O: Overlay> Model for Runner<O> {
         (O.layer r.overlay) r.room r.states r.locks.items r.at r.era };
 }
 
-/// Zero states of that shape, one for each node. What the faulty nodes tell will stand in them.
-fn zero_lies(alloc: Global, script: &Script, shape: &StateShape) -> Result<Vec<NodeState>, NoMemory>
-    requires { shape.now ≡ script.now.shape }
-    ensures told { IfOk result (λ lies. length lies.items ≡ script.now.nodes) }
-    ensures lies { IfOk result (λ lies. AreOfNodes script.now lies.items) }
-{
-    shape.facts();
-    let lies = NodeState::zeros(alloc, script.faulty().nodes(), shape.depth())?;
-    Ok(lies)
-}
-
 /// What rounds need beside two configurations, whose states have that shape.
 fn room_for(
     alloc: Global,
@@ -93,16 +82,15 @@ fn room_for(
 ) -> Result<RoundBuffers, NoMemory>
     requires nodes { script.now.nodes ≡ plan_nodes tower.now }
     requires shape { shape.now ≡ script.now.shape }
+    requires deep { plan_depth tower.now ≤ script.now.shape.depth }
     ensures { IfOk result (IsReady tower.now script.now) }
 {
     let depth = shape.depth();
     Ok(RoundBuffers {
         noise: Noise::with_room(alloc, script)?,
         heard: NodeState::zeros(alloc, script.faulty().nodes(), depth)?,
-        lies: zero_lies(alloc, script, shape)?,
-        shared: tower.shared(alloc)?,
         work: tower.work(alloc)?,
-        out: NodeState::zero(alloc, depth)?,
+        step: StepBuffers::new(alloc, tower, depth)?,
     })
 }
 
@@ -142,7 +130,7 @@ impl<O: Overlay> Runner<O> {
         let _rounds = script.rounds();
         let mut room = room_for(alloc, &tower, &script, &shape)?;
         let mut states = Packed::new(alloc, shape, script.faulty().nodes())?;
-        start_all(&script, &mut room.noise, &mut room.out, &mut states);
+        start_all(&script, &mut room.noise, &mut room.step.out, &mut states);
         let locked = is_locked(&tower, script.faulty(), &states);
         let locks = first_locks(alloc, &script, locked)?;
         Ok(Runner {
@@ -318,7 +306,7 @@ impl<O: Overlay> Runner<O> {
             (lie_of self.old.script self.old.at u v self.old.states) }
         ensures same { self.new ≡ self.old }
     {
-        let lie = &mut self.room.out;
+        let lie = &mut self.room.step.out;
         let noise = &mut self.room.noise;
         self.script
             .lie_into(noise, self.at, u, v, &self.states, lie);

@@ -42,7 +42,7 @@ impl Runner<NoOverlay> {
     {
         self.states.facts();
         let mut steps = Steps::<G>::new(blank);
-        let shared = &mut self.room.shared;
+        let shared = &mut self.room.step.shared;
         let faulty = self.script.era_faulty(self.era);
         self.tower.gather(&self.states, faulty, shared, &mut steps);
         shared.is_settled()
@@ -57,7 +57,7 @@ impl Runner<NoOverlay> {
         ensures known { result ≡ true → is_some (slice_index_or self.old.locks
             (era_of self.old.script self.old.at) None) ≡ true }
     {
-        if self.locked_at().is_none() || !self.room.shared.is_settled() {
+        if self.locked_at().is_none() || !self.room.step.shared.is_settled() {
             return false;
         }
         self.gather::<Brand>(Blank::new(1))
@@ -78,7 +78,7 @@ impl Runner<NoOverlay> {
         let to = end.min(self.era_end() - 1);
         if self.at() < to && self.is_settled() {
             self.states.facts();
-            grow(to - self.at, &mut self.room.out, &mut self.states);
+            grow(to - self.at, &mut self.room.step.out, &mut self.states);
             self.states.flip();
             self.at = to;
         } else {

@@ -3,24 +3,22 @@ ghost use Rattle.std.specs.Prelude.{slice_index};
 ghost use Rattle.sync_types.specs.States.{State};
 ghost use Rattle.construction.specs.Plans.{plan_depth};
 ghost use Rattle.construction.specs.Shown.{shown};
-ghost use Rattle.construction.specs.Steps.{state_of, step_of};
+ghost use Rattle.construction.specs.Steps.{state_of};
 ghost use Rattle.plan_laws.specs.PlanMeaning.{plan_meaning};
 ghost use Rattle.state_codec.specs.Shapes.{fields_at};
 ghost use Rattle.state_codec.specs.Ranges.{InRange};
-ghost use Rattle.shared_board.specs.Sharing.{stands_for};
-ghost use Rattle.counter_core.specs.Meanings.{written};
 ghost use Rattle.counter_core.specs.Heeding.{DependsOnlyOn};
 ghost use Rattle.counter_core.specs.Overlays.{after, layered};
 ghost use Rattle.counter_core.specs.Working.{IsWorkFor};
 ghost use Rattle.adversary_script.specs.Eras.{faulty_at};
-ghost use Rattle.machine_runner.specs.Hearing.{heard_from, HasRoom};
+ghost use Rattle.machine_runner.specs.Hearing.{HasRoom};
 ghost use Rattle.round_runner.specs.Hearing.{AreLies};
 ghost use Rattle.round_runner.specs.Laying.{IsEnough, IsLaid, IsLaidFor, IsSameOrTold};
-ghost use Rattle.round_runner.specs.Rooms.{IsReady};
 ghost use Rattle.layer_laws.specs.PlayedScenes.{layer_step, new_state};
 ghost use Rattle.round_runner.specs.Turns.{heard_in, IsGathered, IsSet};
 
-use crate::telling::{fill_lies, liars_in};
+use crate::hearers::Hearer;
+use crate::told_steps::{StepBuffers, step_told};
 use crate::turns::{NodeStep, Round};
 use adversary_script::Noise;
 use counter_core::{Counter, Heard, Overlay, Work};
@@ -28,23 +26,33 @@ use majority_votes::Steps;
 use state_codec::Packed;
 use std::sync::ledger::Ledger;
 use sync_types::NodeState;
-use tower::Shared;
 
 /// What rounds need beside two configurations, made once.
-#[derive(Drop)]
 pub struct RoundBuffers {
     /// The noise of the script.
     pub noise: Noise,
     /// What a node hears, by place, if a layer hears it.
     pub heard: Vec<NodeState>,
-    /// What the faulty nodes tell a node, in the order of their ids.
-    pub lies: Vec<NodeState>,
-    /// What all nodes share.
-    pub shared: Shared,
-    /// The room that a step needs.
+    /// The room that a layer's step needs.
     pub work: Work,
-    /// The new state of a node.
-    pub out: NodeState,
+    /// What the counter's steps need.
+    pub step: StepBuffers,
+}
+
+// Written out, so that code that drops one has a single call.
+impl Drop for RoundBuffers {
+    fn drop(self) {
+        let RoundBuffers {
+            noise,
+            heard,
+            work,
+            step,
+        } = self;
+        drop(noise);
+        drop(heard);
+        drop(work);
+        drop(step);
+    }
 }
 
 /// The output of depth `depth` of node `v`, whose state has as many registers: the value of its
@@ -58,53 +66,6 @@ pub fn shown_at(states: &Packed, v: u32, depth: usize) -> u64
         0 => states.x(v),
         depth => states.reg(v, depth - 1).a.unwrap_or(0),
     }
-}
-
-/// The shortest stretch of places that has two others.
-fn hull(one: (usize, usize), other: (usize, usize)) -> (usize, usize)
-    ensures one { (j : ℕ) → one.0 ≤ j → j < one.1 → (result.0 ≤ j) × (j < result.1) }
-    ensures other { (j : ℕ) → other.0 ≤ j → j < other.1 → (result.0 ≤ j) × (j < result.1) }
-    ensures within { (n : ℕ) → one.1 ≤ n → other.1 ≤ n → result.1 ≤ n }
-{
-    if one.0 >= one.1 {
-        return other;
-    }
-    if other.0 >= other.1 {
-        return one;
-    }
-    (one.0.min(other.0), one.1.max(other.1))
-}
-
-/// The counter's step of a node, by what is shared and what the faulty nodes tell it: those that it
-/// heeds, and those of a stretch that its layer heeds.
-fn step_shared<G: Ledger>(
-    turn: &NodeStep<'_>,
-    layers: (usize, usize),
-    room: &mut RoundBuffers,
-    steps: &mut Steps<G>,
-)
-    requires layers { layers.1
-        ≤ length (faulty_at turn.now.round.now.script.now turn.now.round.now.t) }
-    requires ready { IsReady turn.now.round.now.tower.now turn.now.round.now.script.now room.old }
-    requires stands { room.old.shared ≡ stands_for turn.now.round.now.tower.now
-        turn.now.states.now.current (faulty_at turn.now.round.now.script.now turn.now.round.now.t) }
-    ensures out { room.new.out ≡ written (plan_depth turn.now.round.now.tower.now)
-        (step_of turn.now.round.now.tower.now turn.now.v (heard_in turn.now)) room.old.out }
-    ensures told { (j : ℕ) → layers.0 ≤ j → j < layers.1
-        → state_of room.new.lies.items j ≡ heard_from turn.now.round.now.script.now
-        turn.now.round.now.t turn.now.v turn.now.states.now.current
-        (slice_index (faulty_at turn.now.round.now.script.now turn.now.round.now.t) j) }
-    ensures lies { AreLies turn.now.round.now.script.now room.new.lies.items }
-    ensures same { room.new ≡ record room.old { lies = room.new.lies; out = room.new.out } }
-    ensures cost { steps.new ≤ steps.old + 3 * plan_depth turn.now.round.now.tower.now
-        * length (faulty_at turn.now.round.now.script.now turn.now.round.now.t) }
-{
-    let tower = turn.round.tower;
-    let liars = turn.round.faulty.len();
-    let stretch = hull(tower.relevant_liars(turn.v, &room.shared), layers);
-    fill_lies(turn, stretch, &mut room.noise, &mut room.lies);
-    let lies = &room.lies[..liars];
-    tower.advance_shared(turn.v, lies, &mut room.shared, &mut room.out, steps);
 }
 
 /// If the node is faulty, lays its own state into its place among what is heard.
@@ -126,7 +87,7 @@ fn lay_itself(turn: &NodeStep<'_>, heard: &mut [NodeState])
 /// Lays what the faulty nodes of a stretch tell into their places among what is heard.
 fn lay_lies(round: &Round<'_>, stretch: (usize, usize), lies: &[NodeState], heard: &mut [NodeState])
     requires stretch { stretch.1 ≤ length round.now.faulty.now.ids }
-    requires lies { AreLies round.now.script.now lies.now }
+    requires lies { AreLies round.now.tower.now round.now.script.now.shape.depth lies.now }
     requires room { HasRoom round.now.script.now heard.old }
     ensures room { HasRoom round.now.script.now heard.new }
     ensures told { (j : ℕ) → stretch.0 ≤ j → j < stretch.1
@@ -135,7 +96,7 @@ fn lay_lies(round: &Round<'_>, stretch: (usize, usize), lies: &[NodeState], hear
         (state_of heard.old u) u (state_of heard.new u) }
 {
     let faulty = round.faulty;
-    let _liars = liars_in(round);
+    let _few = faulty.len();
     faulty.facts();
     for j in stretch.0..stretch.1 {
         heard[faulty.at(j) as usize].copy_from(&lies[j]);
@@ -179,17 +140,20 @@ fn step_layer<O: Overlay>(turn: &NodeStep<'_>, overlay: &mut O, room: &mut Round
     ensures kept { O.kept overlay.new ≡ slice_set (O.kept overlay.old) turn.now.v
         (layer_step (plan_meaning turn.now.round.now.tower.now) (O.layer overlay.old)
         (O.kept overlay.old) turn.now.v (heard_in turn.now)).kept }
-    ensures out { room.new.out ≡ layered (O.layer overlay.old)
+    ensures out { room.new.step.out ≡ layered (O.layer overlay.old)
         (layer_step (plan_meaning turn.now.round.now.tower.now) (O.layer overlay.old)
-        (O.kept overlay.old) turn.now.v (heard_in turn.now)).registers room.old.out }
+        (O.kept overlay.old) turn.now.v (heard_in turn.now)).registers room.old.step.out }
     ensures work { IsWorkFor turn.now.round.now.script.now.nodes room.new.work }
-    ensures same { room.new ≡ record room.old { work = room.new.work; out = room.new.out } }
+    ensures same { room.new ≡ record room.old {
+      work = room.new.work;
+      step = record room.old.step { out = room.new.step.out };
+    } }
 {
     turn.states.facts();
     turn.round.facts();
     let output = shown_at(turn.states, turn.v, turn.round.tower.depth());
     let heard = Heard::of(&room.heard);
-    overlay.advance(turn.v, output, &heard, &mut room.work, &mut room.out);
+    overlay.advance(turn.v, output, &heard, &mut room.work, &mut room.step.out);
 }
 
 /// The step of a node, and after it that of the layer above.
@@ -200,10 +164,10 @@ pub fn step_with<O: Overlay, G: Ledger>(
     steps: &mut Steps<G>,
 )
     requires { IsGathered turn.now.round.now (O.layer overlay.old) turn.now.states.now room.old }
-    ensures out { room.new.out ≡ new_state (plan_meaning turn.now.round.now.tower.now)
+    ensures out { room.new.step.out ≡ new_state (plan_meaning turn.now.round.now.tower.now)
         (O.layer overlay.old) (O.kept overlay.old) turn.now.v (heard_in turn.now) }
     ensures range { InRange (fields_at turn.now.round.now.script.now.shape turn.now.v)
-        room.new.out }
+        room.new.step.out }
     ensures layer { O.layer overlay.new ≡ O.layer overlay.old }
     ensures kept { O.kept overlay.new ≡ slice_set (O.kept overlay.old) turn.now.v
         (layer_step (plan_meaning turn.now.round.now.tower.now) (O.layer overlay.old)
@@ -216,7 +180,21 @@ pub fn step_with<O: Overlay, G: Ledger>(
     turn.states.facts();
     turn.round.facts();
     let layers = heed(turn, overlay, room);
-    step_shared(turn, layers, room, steps);
-    lay_lies(turn.round, layers, &room.lies, &mut room.heard);
+    let round = turn.round;
+    let hearer = Hearer {
+        tower: round.tower,
+        faulty: round.faulty,
+        states: turn.states,
+        v: turn.v,
+    };
+    step_told(
+        &hearer,
+        layers,
+        round,
+        &mut room.noise,
+        &mut room.step,
+        steps,
+    );
+    lay_lies(round, layers, &room.step.lies, &mut room.heard);
     step_layer(turn, overlay, room);
 }

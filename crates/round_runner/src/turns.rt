@@ -3,16 +3,17 @@ ghost use Rattle.construction.specs.Plans.{plan_nodes};
 ghost use Rattle.construction.specs.Runs.{IsToleratedBy};
 ghost use Rattle.adversary_script.specs.Eras.{faulty_at};
 ghost use Rattle.machine_runner.specs.Beginnings.{BeginsAt, is_prop};
-ghost use Rattle.round_runner.specs.Fits.{TakesStates, takes_prop};
 
+use crate::hearers::Hearer;
+use crate::telling::Lies;
 use adversary_script::Script;
 use counter_core::Counter;
 use state_codec::Packed;
-use sync_types::FaultSet;
+use sync_types::{FaultSet, NodeState};
 use tower::Tower;
 
 /// A round of a script on the counter of its plan, which tolerates the script's faulty nodes.
-#[derive(Clone, Copy, Drop)]
+#[derive(Drop)]
 pub struct Round<'a> {
     /// The counter.
     pub tower: &'a Tower,
@@ -29,7 +30,6 @@ pub struct Round<'a> {
     ghost liars: { faulty.now
         ≡ record { nodes = script.now.nodes; ids = faulty_at script.now t } },
     ghost left: { t < script.now.rounds },
-    ghost takes: { TakesStates tower.now script.now } by { takes_prop tower.now script.now },
     ghost behind: { BeginsAt script.now (t + 1) begins } by { is_prop script.now (t + 1) begins },
 }
 
@@ -45,8 +45,31 @@ impl Round<'_> {
     }
 }
 
+impl Lies for Round<'_> {
+    ghost use Rattle.adversary_script.specs.Lies.{lie_of};
+    ghost use Rattle.round_runner.specs.Turns.{IsOf};
+
+    type Noise = adversary_script::Noise;
+
+    ghost says = { λ round config u v. lie_of round.script.now round.t u v config };
+
+    ghost tells = { λ round hearer noise. IsOf round hearer noise };
+
+    fn tell(
+        &self,
+        hearer: &Hearer<'_>,
+        _j: usize,
+        u: u32,
+        noise: &mut adversary_script::Noise,
+        out: &mut NodeState,
+    ) {
+        self.script
+            .lie_into(noise, self.t, u, hearer.v, hearer.states, out);
+    }
+}
+
 /// A node that steps in a round, from a configuration of the script's nodes.
-#[derive(Clone, Copy, Drop)]
+#[derive(Drop)]
 pub struct NodeStep<'a> {
     /// The round.
     pub round: &'a Round<'a>,

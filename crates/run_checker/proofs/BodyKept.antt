@@ -3,15 +3,14 @@ use Rattle.std.proofs.Common.{◌≡◌, ℕ, zero, suc, ◌+◌, ◌-◌, ◌<�
 use Rattle.std.proofs.Common.{◌&&◌, List, [], ◌∷◌, ◌++◌, length, map, replicate, All, drop, eqb}
 use Rattle.std.proofs.Common.{get_or, refl, sym, ap, ◌∙◌, subst, arith}
 use Rattle.std.specs.List.{range_with_len}
-use Rattle.std.proofs.lemmas.List.{length-replicate}
 use Rattle.std.proofs.lemmas.List.Elements.{All-push, All-nil, All-cons, All-head, All-tail}
-use Rattle.sync_types.specs.States.{State, zero_state, zero_register}
+use Rattle.sync_types.specs.States.{State, zero_state}
 use Rattle.sync_types.specs.FaultSets.{FaultIds, is_in}
 use Rattle.run_checker.specs.Grammar.{pairs_of}
 use Rattle.construction.specs.Plans.{Plan, plan_nodes, plan_depth}
 use Rattle.plan_numbers.specs.Premises.{IsAccepted}
 use Rattle.plan_laws.specs.PlanMeaning.{IsInRange}
-use Rattle.plan_laws.proofs.PlanCounter.{positive, plan_zero}
+use Rattle.plan_laws.proofs.PlanCounter.{positive}
 use Rattle.plan_laws.proofs.Ranges.{range_of_state}
 use Rattle.state_codec.specs.Shapes.{Shape, moduli_of, shape_of, shape_nodes, fields_at}
 use Rattle.state_codec.specs.Ranges.{InRange}
@@ -41,20 +40,6 @@ module _ (plan : Plan) (accepted : IsAccepted plan) where
       → InRange (fields_at (shape_of plan) v) s
       → length s.registers ≡ plan_depth plan
   node_deep v lt s range = (state_of_node plan accepted v lt s range).depth
-
-  -- zero states
-  all_replicate : (P : State → Type 0) (n : ℕ) (s : State) → P s → All P (replicate n s)
-  all_replicate P zero s h = All-nil P
-  all_replicate P (suc n) s h = All-cons P s (replicate n s) h (all_replicate P n s h)
-
-  pub zeros_are : (n : ℕ) → AreStates plan (replicate n (zero_state (plan_depth plan)))
-  zeros_are n = record {
-    deep =
-        all_replicate (λ s. length s.registers ≡ plan_depth plan) n (zero_state (plan_depth plan))
-        (length-replicate (plan_depth plan) zero_register);
-    range =
-        all_replicate (IsInRange plan) n (zero_state (plan_depth plan)) (plan_zero plan accepted);
-  }
 
   -- a state that is told
   pub states_more : (states : List State) (s : State) → AreStates plan states

@@ -2,7 +2,6 @@
 use Rattle.std.proofs.Common.{◌≡◌, ℕ, Bool, true, false, cond, ◌&&◌, List, Option, Some}
 use Rattle.std.proofs.Common.{None, Ok, refl, ap, ◌∙◌}
 use Rattle.std.proofs.lemmas.Option.{same_Some}
-use Rattle.edge_io.specs.declared.taking.TakeError.TheVariants as take
 use Rattle.edge_io.specs.Taking.{Takes}
 use Rattle.texts.specs.Parts.{goes, ends, refuses}
 use Rattle.construction.specs.Plans.{plan_nodes, plan_faults, plan_depth}

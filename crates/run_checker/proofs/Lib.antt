@@ -29,7 +29,6 @@ mod BodyKept
 mod BodySteps
 mod Decoded
 mod EraFound
-mod HeardLaid
 mod LevelLines
 mod LineTexts
 mod LinesRead

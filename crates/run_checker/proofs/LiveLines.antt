@@ -1,5 +1,5 @@
 -- The lines of the shortest end of a certificate: they are short, and a row of zeros is a row.
-use Rattle.std.proofs.Common.{◌≡◌, ℕ, zero, suc, ◌+◌, ◌-◌, ◌*◌, ◌<◌, ◌≤◌}
+use Rattle.std.proofs.Common.{◌≡◌, ℕ, zero, suc, ◌+◌, ◌*◌, ◌<◌, ◌≤◌}
 use Rattle.std.proofs.Common.{Bool, true, false, cond, not, List, [], ◌∷◌, ◌++◌, length, map}
 use Rattle.std.proofs.Common.{replicate, decimal, Option, Some, None, refl}
 use Rattle.std.proofs.Common.{arith, if◌then◌else◌}

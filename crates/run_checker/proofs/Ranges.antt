@@ -3,6 +3,7 @@ use Rattle.std.proofs.Common.{◌≡◌, ℕ, zero, suc, ◌+◌, ◌-◌, ◌<�
 use Rattle.std.proofs.Common.{◌&&◌, ◌||◌, List, [], ◌∷◌, ◌++◌, length, map, filter, slice_index}
 use Rattle.std.proofs.Common.{take, refl, sym, ap, ap₂, ◌∙◌, add-one, arith, length-append}
 use Rattle.std.specs.List.{range_with_len, list_any, flat_map}
+use Rattle.std.specs.Int.{from_bool}
 use Rattle.std.proofs.lemmas.List.{append-nil, append_assoc, map-append}
 use Rattle.std.proofs.lemmas.List.FromFn.{length-range_with_len, get_or-range_with_len}
 use Rattle.std.proofs.lemmas.Grind.{flat_map-append, take_at_read}
@@ -73,10 +74,10 @@ module _ (faulty : List ℕ) where
       → length (correct_nodes (v + 1) faulty) ≡ length (correct_nodes v faulty)
   count_faulty v is = ap (λ (l : List ℕ). length l) (one_faulty v is)
 
-  pub count_more : (v : ℕ) → length (correct_nodes v faulty) + cond (is_in faulty v) 0 1
+  pub count_more : (v : ℕ) → length (correct_nodes v faulty) + from_bool (not (is_in faulty v))
       ≡ length (correct_nodes (v + 1) faulty)
   count_more v = by (is_in faulty v) refl where
-    by : (b : Bool) → is_in faulty v ≡ b → length (correct_nodes v faulty) + cond b 0 1
+    by : (b : Bool) → is_in faulty v ≡ b → length (correct_nodes v faulty) + from_bool (not b)
         ≡ length (correct_nodes (v + 1) faulty)
     by true e = let same = count_faulty v e in omega (arith, same)
     by false e = let one = count_one v e in omega (arith, one)

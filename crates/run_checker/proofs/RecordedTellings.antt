@@ -1,5 +1,5 @@
 -- The states that a recorded certificate puts and the lies that it tells, looked up.
-use Rattle.std.proofs.Common.{inl, inr, ⊎_elim, ◌≡◌, ◌⊎◌, ℕ, ◌+◌, ◌<◌, Bool, true, false}
+use Rattle.std.proofs.Common.{inl, inr, ⊎_elim, ◌≡◌, ◌⊎◌, ℕ, ◌<◌, Bool, true, false}
 use Rattle.std.proofs.Common.{cond, eqb, not, ◌&&◌, ◌||◌, List, [], ◌∷◌, ◌++◌, length, map, set}
 use Rattle.std.proofs.Common.{Some, find, unwrap_or, filter, refl, sym, ap}
 use Rattle.std.proofs.Common.{subst, ◌∙◌, arith}

@@ -49,6 +49,14 @@ nodes_counted ids (suc n) = by (is_in ids n) refl (nodes_counted ids n) where
       ap (λ (b : Bool). place_among ids n + (if b then 1 else 0)) e in
       omega (arith, next, here, count_one ids n e, before)
 
+-- so the others are as many as are left
+pub correct_left : (set : FaultIds) → AreFaulty set
+    → length (correct_nodes set.nodes set.ids) ≡ set.nodes - length set.ids
+correct_left set faulty =
+    let count = nodes_counted set.ids set.nodes in
+    let bad = places_of_all set.ids set.nodes faulty.rising faulty.below in
+    omega (arith, count, bad)
+
 more_product : (q d a : ℕ) → q * (q + a + d) ≤ (q + d) * (q + a)
 more_product q d a =
     omega (arith, mul-add q (q + a) d, add-mul q d (q + a), mul-add d q a, mul_comm d q)
@@ -76,10 +84,7 @@ pairs_few plan accepted set nodes faulty few =
     let q = length set.ids in
     let f = plan_faults plan in
     let third = (plan_sizes plan accepted).few in
-    let count = nodes_counted set.ids set.nodes in
-    let bad = places_of_all set.ids set.nodes faulty.rising faulty.below in
-    let good : length (correct_nodes set.nodes set.ids)
-    ≡ set.nodes - q = omega (arith, count, bad) in
+    let good = correct_left set faulty in
     omega (
       arith,
       length-pairs_of set.nodes set.ids,

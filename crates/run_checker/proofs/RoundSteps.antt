@@ -20,7 +20,7 @@ use Rattle.adversary_script.proofs.LiesInRange.{zero_of_node}
 use Rattle.counter_core.specs.Meanings.{written}
 use Rattle.run_checker.specs.Grammar.{pairs_of}
 use Rattle.machine_runner.proofs.Places.{all_places, set_has}
-use Rattle.run_checker.specs.declared.rounds.RoundBuffers.{RoundBuffers}
+use Rattle.round_runner.specs.declared.told_steps.StepBuffers.{StepBuffers}
 use Rattle.run_checker.specs.Rounds.{stepped_at, stepped_all, state_next, AreStates, IsGathered}
 use Rattle.run_checker.proofs.BodyKept.{node_range, node_deep}
 
@@ -82,21 +82,10 @@ module _ (plan : Plan) (accepted : IsAccepted plan) (pack : Pack)
       (in_range_of_node plan accepted v lt (step_of plan v heard)
       (step_is_state plan some.0 some.1 v heard)))
 
--- what is written over a state of the same depth keeps it
-pub out_long : (plan : Plan) → IsAccepted plan → (v : ℕ) (heard : List State) (out new : State)
-    → length out.registers ≡ plan_depth plan
-    → new ≡ written (plan_depth plan) (step_of plan v heard) out
-    → length new.registers ≡ plan_depth plan
-out_long plan accepted v heard out new long is =
-    let some = positive plan.base plan.levels accepted.levels in
-    ap (λ (s : State). length s.registers)
-    (is ∙ written_over (plan_depth plan) (step_of plan v heard) out long)
-    ∙ (step_is_state plan some.0 some.1 v heard).depth
-
 -- ---- a configuration whose next one is being written
 
 module _ (plan : Plan) (ids : List ℕ) (told : List State) (config : Pack) (next : List State)
-    (now : Pack) (room : RoundBuffers) (fixed : now ≡ record config { next = next }) where
+    (now : Pack) (room : StepBuffers) (fixed : now ≡ record config { next = next }) where
   pub gathered_in : IsGathered plan ids told config room → IsGathered plan ids told now room
   gathered_in h = subst (λ (p : Pack). IsGathered plan ids told p room) (sym fixed) (record {
     said = h.said;
@@ -116,27 +105,6 @@ module _ (plan : Plan) (ids : List ℕ) (told : List State) (config : Pack) (nex
           ready = k.ready;
           stands = k.stands;
         }
-
--- a room in which lies were laid
-pub gathered_laid : (plan : Plan) (ids : List ℕ) (told : List State) (config : Pack)
-    (old new : RoundBuffers)
-    → new ≡ record old { lies = new.lies } → IsGathered plan ids told config old
-    → length new.lies.items ≡ length old.lies.items → AreStates plan new.lies.items
-    → IsGathered plan ids told config new
-gathered_laid plan ids told config old new same h size states =
-    let ready = h.ready in
-    subst (IsGathered plan ids told config) (sym same) (record {
-      said = h.said;
-      is = h.is;
-      ready = record {
-        size = size ∙ ready.size;
-        lies = states;
-        zero = ready.zero;
-        shared = ready.shared;
-        out = ready.out;
-      };
-      stands = h.stands;
-    })
 
 -- ---- all steps
 

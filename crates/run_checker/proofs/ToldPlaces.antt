@@ -4,12 +4,18 @@ use Rattle.std.proofs.Common.{eqb, not, ◌&&◌, List, [], ◌∷◌, ◌++◌,
 use Rattle.std.proofs.Common.{sym, ap, ◌∙◌, arith, length-append}
 use Rattle.std.specs.Prelude.{filter, slice_index}
 use Rattle.std.specs.List.{range_with_len, flat_map}
+use Rattle.std.specs.List.Sorted.{IsStrictlyIncreasing}
 use Rattle.std.proofs.lemmas.Bool.{eq-eqb, ne_eqb, true≢false}
 use Rattle.std.proofs.lemmas.List.{get_or-drop, length-map}
 use Rattle.std.proofs.lemmas.List.Elements.{filter-append}
+use Rattle.std.proofs.lemmas.Nat.{mul-le}
 use Rattle.sync_types.specs.States.{State, zero_state}
 use Rattle.sync_types.specs.FaultSets.{is_in}
+use Rattle.construction.specs.Plans.{Plan, plan_nodes, plan_depth}
+use Rattle.construction.specs.Steps.{state_of}
+use Rattle.machine_runner.proofs.Places.{within}
 use Rattle.round_runner.specs.Locks.{correct_nodes}
+use Rattle.round_runner.proofs.Own.{same_place}
 use Rattle.run_checker.specs.Grammar.{pairs_of}
 use Rattle.run_checker.specs.Rounds.{told_for}
 
@@ -202,3 +208,31 @@ length-rows vs (u ∷ ids) =
 pub length-pairs_of : (n : ℕ) (faulty : List ℕ)
     → length (pairs_of n faulty) ≡ length faulty * length (correct_nodes n faulty)
 length-pairs_of n faulty = length-rows (correct_nodes n faulty) faulty
+
+-- ---- what a correct node is told
+
+-- node v is a correct one of a round, of the correct ones before it there are so many, and what the
+-- j-th of the faulty nodes tells all of them was told
+module _ (plan : Plan) (ids : List ℕ) (told : List State) (v correct before j : ℕ)
+    (node : v < plan_nodes plan) (is : is_in ids v ≡ false)
+    (all : correct ≡ length (correct_nodes (plan_nodes plan) ids))
+    (some : before ≡ length (correct_nodes v ids)) (lt : j < length ids)
+    (whole : length told ≡ length (pairs_of (plan_nodes plan) ids)) where
+  -- what it tells v is in its place
+  pub told_within : j * correct + before < length told
+  told_within =
+      let few = fewer_before (plan_nodes plan) v ids node is in
+      let more : (j + 1) * correct ≤ length ids * correct =
+      mul-le (j + 1) correct (length ids) correct (omega (arith, lt)) (omega arith) in
+      let sized = ap (λ (m : ℕ). length ids * m) all in
+      omega (arith, few, all, some, more, sized, whole, length-pairs_of (plan_nodes plan) ids)
+
+  pub told_there : IsStrictlyIncreasing ids → state_of told (j * correct + before)
+      ≡ told_for (plan_depth plan) (pairs_of (plan_nodes plan) ids) told (slice_index ids j) v
+  told_there rising =
+      within told (j * correct + before) (zero_state 0) (zero_state (plan_depth plan)) told_within
+      ∙ ap (λ (m : ℕ). get_or told (j * m + before) (zero_state (plan_depth plan))) all
+      ∙ ap (λ (p : ℕ). get_or told (j * length (correct_nodes (plan_nodes plan) ids) + p)
+      (zero_state (plan_depth plan))) some
+      ∙ sym (told_at (plan_depth plan) (plan_nodes plan) v ids node is (same_place ids rising) j lt
+      told)

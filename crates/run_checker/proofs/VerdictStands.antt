@@ -1,5 +1,5 @@
 -- The stands that the lines of a certificate lead to are the stated ones.
-use Rattle.std.proofs.Common.{◌≡◌, ℕ, ◌+◌, ◌-◌}
+use Rattle.std.proofs.Common.{◌≡◌, ℕ}
 use Rattle.std.proofs.Common.{List, [], ◌∷◌, ◌++◌, map, Option, Some, None, refl, sym}
 use Rattle.std.proofs.Common.{ap, ◌∙◌, append_assoc}
 use Rattle.std.specs.List.{zip}
@@ -9,7 +9,6 @@ use Rattle.sync_types.specs.States.{State}
 use Rattle.run_checker.specs.Certificates.{Put, Lie, Era}
 use Rattle.run_checker.specs.Grammar.{pairs_of}
 use Rattle.run_checker.specs.Stated.{Snapshot, Message, told_by, stepped, with_starts, stand_behind}
-use Rattle.run_checker.specs.Stated.{stated}
 use Rattle.run_checker.specs.Checking.{Known, put_state, moved, renewed, attributed}
 use Rattle.run_checker.proofs.Complete.{put_all, all_lies, lie_state, behind}
 use Rattle.run_checker.proofs.Tests.{pair_of}

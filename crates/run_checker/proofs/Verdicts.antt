@@ -16,7 +16,7 @@ use Rattle.run_checker.specs.Stated.{last_start_from, last_start, locks_at, verd
 use Rattle.run_checker.specs.Stated.{verdict_of}
 use Rattle.run_checker.specs.Checking.{Known, put_state, compared, moved, renewed}
 use Rattle.run_checker.specs.Checking.{nothing_known}
-use Rattle.run_checker.proofs.Complete.{put_all, all_lies, behind, turned, followed}
+use Rattle.run_checker.proofs.Complete.{put_all, all_lies, turned, followed}
 use Rattle.run_checker.proofs.Complete.{at_put_all, at_behind}
 use Rattle.run_checker.proofs.Tests.{pair_of, plan_put_all, plan_behind}
 use Rattle.run_checker.proofs.Head.{opened}

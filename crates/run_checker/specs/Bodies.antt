@@ -1,14 +1,15 @@
 -- How far the lines after the head of a certificate were read.
 use Rattle.std.specs.Prelude.{◌≡◌, ℕ, ◌≤◌, List, length, Bool, All, ◌<◌, if◌then◌else◌}
-use Rattle.sync_types.specs.States.{State}
+use Rattle.sync_types.specs.States.{State, zero_state}
 use Rattle.sync_types.specs.FaultSets.{FaultIds}
-use Rattle.construction.specs.Plans.{Plan, plan_nodes}
+use Rattle.construction.specs.Plans.{Plan, plan_nodes, plan_depth}
 use Rattle.state_codec.specs.Shapes.{shape_of}
 use Rattle.state_codec.specs.Packs.{Pack}
 use Rattle.run_checker.specs.Grammar.{pairs_of, most_eras}
 use Rattle.run_checker.specs.Checking.{Known, Stage, putting, telling}
-use Rattle.run_checker.specs.declared.rounds.RoundBuffers.{RoundBuffers}
-use Rattle.run_checker.specs.Rounds.{AreStates, IsReady}
+use Rattle.round_runner.specs.declared.told_steps.StepBuffers.{StepBuffers}
+use Rattle.round_runner.specs.Rooms.{IsMadeFor}
+use Rattle.run_checker.specs.Rounds.{AreStates}
 use Rattle.run_checker.specs.Sets.{no_ids}
 use Rattle.run_checker.specs.Tellings.{Telling, most_pairs}
 
@@ -27,7 +28,7 @@ stage_of b = if b.is_putting then putting b.known b.unknown b.from else telling 
 -- the configuration is one of the plan, the pairs are those of its faulty nodes, and there is room
 -- for the rounds of any era, with an empty set for each that may still begin
 pub record IsBody (version : ℕ) (plan : Plan) (bad none_known : FaultIds) (pack : Pack)
-    (tellings : Telling) (needed : RoundBuffers) (spare : List FaultIds)
+    (tellings : Telling) (none : State) (needed : StepBuffers) (spare : List FaultIds)
     (behind number : ℕ) : Type 0 where
   pub shape : pack.shape ≡ shape_of plan
   pub faulty : bad.nodes ≡ plan_nodes plan
@@ -38,7 +39,8 @@ pub record IsBody (version : ℕ) (plan : Plan) (bad none_known : FaultIds) (pac
   pub kept : tellings.shape ≡ shape_of plan
   pub told : AreStates plan tellings.states
   pub most : tellings.room ≡ most_pairs plan
-  pub room : IsReady plan needed
+  pub zero : none ≡ zero_state (plan_depth plan)
+  pub room : IsMadeFor plan (plan_depth plan) needed
   pub sets : All (λ set. set ≡ no_ids (plan_nodes plan)) spare
   pub eras : length spare ≤ most_eras version
   pub from : behind ≤ plan_nodes plan

@@ -11,7 +11,8 @@ use Rattle.state_codec.specs.Packs.{Pack}
 use Rattle.shared_board.specs.Sharing.{stands_for}
 use Rattle.run_checker.specs.Grammar.{pairs_of}
 use Rattle.plan_laws.specs.PlanMeaning.{IsInRange}
-use Rattle.run_checker.specs.declared.rounds.RoundBuffers.{RoundBuffers}
+use Rattle.round_runner.specs.declared.told_steps.StepBuffers.{StepBuffers}
+use Rattle.round_runner.specs.Rooms.{IsMadeFor}
 use Rattle.run_checker.specs.Tellings.{Telling}
 
 -- what u tells v: the state told for the first pair of both, or the zero state if there is none
@@ -52,14 +53,6 @@ pub record AreStates (plan : Plan) (states : List State) : Type 0 where
   pub deep : All (λ s. length s.registers ≡ plan_depth plan) states
   pub range : All (IsInRange plan) states
 
--- the room that rounds of a plan need: as many may lie as there are nodes
-pub record IsReady (plan : Plan) (room : RoundBuffers) : Type 0 where
-  pub size : length room.lies.items ≡ plan_nodes plan
-  pub lies : AreStates plan room.lies.items
-  pub zero : room.zero ≡ zero_state (plan_depth plan)
-  pub shared : room.shared.plan ≡ plan
-  pub out : length room.out.registers ≡ plan_depth plan
-
 -- all that the faulty nodes of a round of a plan tell was told
 pub record IsTold (plan : Plan) (faulty : FaultIds) (telling : Telling) : Type 0 where
   pub nodes : faulty.nodes ≡ plan_nodes plan
@@ -74,8 +67,8 @@ pub record IsConfig (plan : Plan) (config : Pack) : Type 0 where
 
 -- and the room is ready, and has counted the correct nodes in it; what the others tell are states
 pub record IsGathered (plan : Plan) (faulty : List ℕ) (told : List State) (config : Pack)
-    (room : RoundBuffers) : Type 0 where
+    (room : StepBuffers) : Type 0 where
   pub said : AreStates plan told
   pub is : IsConfig plan config
-  pub ready : IsReady plan room
+  pub ready : IsMadeFor plan (plan_depth plan) room
   pub stands : room.shared ≡ stands_for plan config.current faulty

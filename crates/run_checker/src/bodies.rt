@@ -3,16 +3,17 @@ ghost use Rattle.run_checker.specs.Grammar.{most_eras};
 
 use crate::Verdict;
 use crate::id_lists::{all_nodes, empty_sets, most_eras, needs_state, read_ids};
-use crate::rounds::{RoundBuffers, play, room_for};
+use crate::rounds::play;
 use crate::tellings::Tellings;
 use counter_core::Counter;
 use edge_io::{TakeError, Words};
 use plan_numbers::Plan;
+use round_runner::StepBuffers;
 use state_codec::{NotState, Packed, StateShape};
 use std::alloc::Global;
 use std::marker::Model;
 use std::mem;
-use sync_types::{FaultSet, NoMemory};
+use sync_types::{FaultSet, NoMemory, NodeState};
 use tower::{Tower, build};
 
 /// The most rounds that a certificate has.
@@ -27,7 +28,8 @@ pub struct Body {
     pub(crate) unknown: FaultSet,
     pub(crate) config: Packed,
     pub(crate) tellings: Tellings,
-    pub(crate) room: RoundBuffers,
+    pub(crate) zero: NodeState,
+    pub(crate) room: StepBuffers,
     pub(crate) is_putting: bool,
     pub(crate) from: u32,
     // An empty set for each era that may still begin.
@@ -47,6 +49,7 @@ impl Drop for Body {
             unknown,
             config,
             tellings,
+            zero,
             room,
             is_putting: _,
             from: _,
@@ -60,6 +63,7 @@ impl Drop for Body {
         drop(unknown);
         drop(config);
         drop(tellings);
+        drop(zero);
         drop(room);
         drop(sets);
     }
@@ -88,8 +92,8 @@ impl Model for Body {
       told = b.tellings.states;
     } };
 
-    ghost invariant = { λ b. IsBody b.version b.tower b.faulty b.unknown b.config b.tellings b.room
-        b.sets.items b.from b.at };
+    ghost invariant = { λ b. IsBody b.version b.tower b.faulty b.unknown b.config b.tellings b.zero
+        b.room b.sets.items b.from b.at };
 }
 
 impl Body {
@@ -121,7 +125,8 @@ impl Body {
         let config = Packed::new(alloc, shape, plan.nodes())?;
         let mut tellings = Tellings::of(alloc, plan)?;
         tellings.begin(&faulty);
-        let room = room_for(alloc, &tower)?;
+        let zero = NodeState::zero(alloc, tower.depth())?;
+        let room = StepBuffers::new(alloc, &tower, tower.depth())?;
         let sets = empty_sets(alloc, plan.nodes(), most_eras(version))?;
         Ok(Body {
             version,
@@ -130,6 +135,7 @@ impl Body {
             unknown,
             config,
             tellings,
+            zero,
             room,
             is_putting: true,
             from: 0,
@@ -283,6 +289,7 @@ impl Body {
             &self.faulty,
             &self.faulty,
             &self.tellings,
+            &self.zero,
             &mut self.config,
             &mut self.room,
         );
@@ -305,6 +312,7 @@ impl Body {
             &self.faulty,
             &faulty,
             &self.tellings,
+            &self.zero,
             &mut self.config,
             &mut self.room,
         );

@@ -14,7 +14,6 @@ mod digits;
 mod ends;
 mod firsts;
 mod head_lines;
-mod hearing;
 mod id_lists;
 pub mod laws;
 mod lie_lines;

@@ -1,82 +1,24 @@
-ghost use Rattle.std.specs.Prelude.{◌≡◌, ◌≤◌, length, if◌then◌else◌, IfOk};
-ghost use Rattle.sync_types.specs.FaultSets.{AreFaulty, is_in};
-ghost use Rattle.construction.specs.Plans.{plan_nodes};
+ghost use Rattle.std.specs.Prelude.{◌≡◌, length};
+ghost use Rattle.sync_types.specs.FaultSets.{AreFaulty};
+ghost use Rattle.sync_types.specs.States.{zero_state};
+ghost use Rattle.construction.specs.Plans.{plan_nodes, plan_depth};
 ghost use Rattle.state_codec.specs.Shapes.{shape_of};
 ghost use Rattle.round_runner.specs.Locks.{correct_nodes};
 ghost use Rattle.round_runner.specs.Ledgers.{IsBlankOf};
+ghost use Rattle.round_runner.specs.Rooms.{IsMadeFor};
 ghost use Rattle.run_checker.specs.Grammar.{pairs_of};
-ghost use Rattle.run_checker.specs.Rounds.{stepped_all, AreStates, IsReady, IsTold, IsConfig};
+ghost use Rattle.run_checker.specs.Rounds.{stepped_all, AreStates, IsTold, IsConfig};
 
 use crate::tellings::Tellings;
 use crate::turns::NodeStep;
 use counter_core::Counter;
 use majority_votes::Steps;
+use round_runner::StepBuffers;
 use state_codec::Packed;
-use std::alloc::Global;
 use std::marker::Brand;
 use std::sync::ledger::{Blank, Ledger};
-use sync_types::{FaultSet, NoMemory, NodeState};
-use tower::{Shared, Tower};
-
-/// What rounds need besides the configurations, made once.
-pub struct RoundBuffers {
-    /// What the faulty nodes tell a node, in the order of their ids.
-    pub lies: Vec<NodeState>,
-    /// The zero state.
-    pub zero: NodeState,
-    /// What all nodes share.
-    pub shared: Shared,
-    /// The new state of a node.
-    pub out: NodeState,
-}
-
-// Written out, so that code that drops one has a single call.
-impl Drop for RoundBuffers {
-    fn drop(self) {
-        let RoundBuffers {
-            lies,
-            zero,
-            shared,
-            out,
-        } = self;
-        drop(lies);
-        drop(zero);
-        drop(shared);
-        drop(out);
-    }
-}
-
-/// The room that rounds of a plan need.
-pub fn room_for(alloc: Global, tower: &Tower) -> Result<RoundBuffers, NoMemory>
-    ensures { IfOk result (IsReady tower.now) }
-{
-    tower.tell();
-    Ok(RoundBuffers {
-        lies: NodeState::zeros(alloc, tower.nodes(), tower.depth())?,
-        zero: NodeState::zero(alloc, tower.depth())?,
-        shared: tower.shared(alloc)?,
-        out: NodeState::zero(alloc, tower.depth())?,
-    })
-}
-
-/// How many correct nodes node `v` is: one, or none if it is faulty.
-fn correct_at(faulty: &FaultSet, v: u32) -> usize
-    ensures value { result ≡ (if is_in faulty.now.ids v then 0 else 1) }
-    ensures most { result ≤ 1 }
-{
-    if faulty.contains(v) { 0 } else { 1 }
-}
-
-/// How many correct nodes there are.
-fn count_correct(faulty: &FaultSet) -> usize
-    ensures { result ≡ length (correct_nodes faulty.now.nodes faulty.now.ids) }
-{
-    let mut count = 0;
-    for v in 0..faulty.nodes() {
-        count += correct_at(faulty, v);
-    }
-    count
-}
+use sync_types::{FaultSet, NodeState};
+use tower::Tower;
 
 /// A round in which the faulty nodes have told all that they have to: whose counter makes its
 /// steps, who is faulty in it, and what these tell.
@@ -88,14 +30,16 @@ pub struct Round<'a> {
     pub faulty: &'a FaultSet,
     /// What they tell.
     pub told: &'a Tellings,
+    /// The zero state.
+    pub zero: &'a NodeState,
     /// How many nodes are correct.
     pub correct: usize,
     ghost nodes: { faulty.now.nodes ≡ plan_nodes tower.now },
     ghost ids: { AreFaulty faulty.now },
-    ghost few: { length faulty.now.ids ≤ faulty.now.nodes },
     ghost whole: { length told.now.states
         ≡ length (pairs_of (plan_nodes tower.now) faulty.now.ids) },
     ghost shape: { told.now.shape ≡ shape_of tower.now },
+    ghost zeros: { zero.now ≡ zero_state (plan_depth tower.now) },
     ghost count: { correct ≡ length (correct_nodes (plan_nodes tower.now) faulty.now.ids) },
 }
 
@@ -106,19 +50,19 @@ impl<'a> Round<'a> {
         &self,
         new_faulty: &FaultSet,
         config: &mut Packed,
-        room: &mut RoundBuffers,
+        room: &mut StepBuffers,
         steps: &mut Steps<G>,
     )
         requires said { AreStates self.now.tower.now self.now.told.now.states }
         requires config { IsConfig self.now.tower.now config.old }
-        requires room { IsReady self.now.tower.now room.old }
+        requires room { IsMadeFor self.now.tower.now (plan_depth self.now.tower.now) room.old }
         ensures config { config.new ≡ record config.old {
           next = stepped_all self.now.tower.now self.now.faulty.now.ids
               new_faulty.now.ids config.old.current
               (pairs_of (plan_nodes self.now.tower.now) self.now.faulty.now.ids)
               self.now.told.now.states;
         } }
-        ensures room { IsReady self.now.tower.now room.new }
+        ensures room { IsMadeFor self.now.tower.now (plan_depth self.now.tower.now) room.new }
     {
         self.tower.tell();
         config.facts();
@@ -129,10 +73,11 @@ impl<'a> Round<'a> {
             let turn = NodeStep {
                 round: &*self,
                 v,
+                is_correct: !self.faulty.contains(v),
                 before,
             };
             turn.step_one(new_faulty, config, room, steps);
-            before += correct_at(self.faulty, v);
+            before += usize::from(turn.is_correct);
         }
     }
 
@@ -141,19 +86,19 @@ impl<'a> Round<'a> {
         &self,
         new_faulty: &FaultSet,
         config: &mut Packed,
-        room: &mut RoundBuffers,
+        room: &mut StepBuffers,
         blank: Blank,
     )
         requires blank { IsBlankOf G.name G.parts blank.name blank.parts }
         requires said { AreStates self.now.tower.now self.now.told.now.states }
         requires config { IsConfig self.now.tower.now config.old }
-        requires room { IsReady self.now.tower.now room.old }
+        requires room { IsMadeFor self.now.tower.now (plan_depth self.now.tower.now) room.old }
         ensures shape { config.new.shape ≡ config.old.shape }
         ensures current { config.new.current ≡ stepped_all self.now.tower.now
             self.now.faulty.now.ids new_faulty.now.ids config.old.current
             (pairs_of (plan_nodes self.now.tower.now) self.now.faulty.now.ids)
             self.now.told.now.states }
-        ensures room { IsReady self.now.tower.now room.new }
+        ensures room { IsMadeFor self.now.tower.now (plan_depth self.now.tower.now) room.new }
     {
         let mut steps = Steps::<G>::new(blank);
         self.step_all(new_faulty, config, room, &mut steps);
@@ -168,24 +113,26 @@ pub fn play(
     faulty: &FaultSet,
     new_faulty: &FaultSet,
     told: &Tellings,
+    zero: &NodeState,
     config: &mut Packed,
-    room: &mut RoundBuffers,
+    room: &mut StepBuffers,
 )
     requires told { IsTold tower.now faulty.now told.now }
+    requires zero { zero.now ≡ zero_state (plan_depth tower.now) }
     requires config { IsConfig tower.now config.old }
-    requires room { IsReady tower.now room.old }
+    requires room { IsMadeFor tower.now (plan_depth tower.now) room.old }
     ensures shape { config.new.shape ≡ config.old.shape }
     ensures current { config.new.current ≡ stepped_all tower.now faulty.now.ids new_faulty.now.ids
         config.old.current (pairs_of (plan_nodes tower.now) faulty.now.ids) told.now.states }
-    ensures room { IsReady tower.now room.new }
+    ensures room { IsMadeFor tower.now (plan_depth tower.now) room.new }
 {
     faulty.facts();
-    let _few = faulty.len();
-    let correct = count_correct(faulty);
+    let correct = faulty.nodes() as usize - faulty.len();
     let round = Round {
         tower,
         faulty,
         told,
+        zero,
         correct,
     };
     let blank = Blank::new(1);

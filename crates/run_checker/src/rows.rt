@@ -37,7 +37,7 @@ fn both(a: bool, b: bool) -> bool
 }
 
 /// A configuration whose correct nodes show something.
-#[derive(Clone, Copy, Drop)]
+#[derive(Drop)]
 pub struct Showing<'a> {
     /// The faulty nodes.
     pub faulty: &'a FaultSet,

@@ -97,11 +97,12 @@ loop-v-init g c =
           ready = record {
             noise = room.noise;
             heard = subst (HasRoom script) (sym is) c.lay_where.ensures.room;
-            told = room.told;
-            lies = room.lies;
-            shared = ap (λ (s : Shares). s.plan) c.gather.ensures.stands;
             work = room.work;
-            out = room.out;
+            step = record {
+              lies = room.step.lies;
+              shared = ap (λ (s : Shares). s.plan) c.gather.ensures.stands;
+              out = room.step.out;
+            };
           };
         };
         stands = c.gather.ensures.stands

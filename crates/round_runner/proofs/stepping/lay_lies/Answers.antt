@@ -1,9 +1,6 @@
-use Rattle.std.proofs.Common.{◌<◌, length, inl, refl, sym, ap, ◌∙◌, subst, arith}
+use Rattle.std.proofs.Common.{◌<◌, length, inl, refl, sym, ap, ◌∙◌, arith}
 use Rattle.sync_types.specs.FaultSets.{FaultIds}
 use Rattle.sync_types.specs.States.{State}
-use Rattle.adversary_script.proofs.LiesInRange.{depth_of_node}
-use Rattle.round_runner.specs.Hearing.{IsOfSome}
-use Rattle.round_runner.proofs.FewLie.{few_lie}
 use Rattle.machine_runner.proofs.Places.{read_at}
 use Rattle.round_runner.proofs.LiesLaid.{one_laid, all_laid}
 use Rattle.round_runner.proofs.stepping.lay_lies.Goals as goal
@@ -23,14 +20,13 @@ loop-j-preserved c =
     let script = c.args.round.now.script.now in
     let size = c.requires.room.size in
     let lt : c.loop-j.j < c.args.stretch.1 = omega (arith, c.loop-j-test.true) in
-    let few = few_lie c.args.round.now in
+    let few = c.len-few.ensures in
     let nodes = ap (λ (s : FaultIds). s.nodes) c.args.round.now.liars in
     let ids : c.loop-j.j < length c.args.round.now.faulty.now.ids =
     omega (arith, lt, c.requires.stretch) in
-    let lies : c.loop-j.j < length c.args.lies.now = omega (arith, ids, few, c.requires.lies.size)
+    let lies : c.loop-j.j < length c.args.lies.now =
+    omega (arith, ids, few.exact, few.within, nodes, c.args.round.now.nodes, c.requires.lies.size)
     in
-    let some = subst (IsOfSome script) (sym c.index-lies-j.is)
-    (c.requires.lies.states c.loop-j.j c.index-lies-j.result lies) in
     one_laid script.shape.depth c.args.round.now.faulty.now.ids c.args.stretch.0
     c.args.stretch.1
     c.args.lies.now c.args.heard.now
@@ -39,7 +35,8 @@ loop-j-preserved c =
     (sym c.at.ensures.id) c.loop-j.invariant (c.copy_from.ensures
     ∙ read_at c.args.lies.now c.loop-j.j c.index-lies-j.result lies c.index-lies-j.is)
     (ap (λ (s : State). length s.registers) c.copy_from.ensures
-    ∙ depth_of_node script.shape some.node _ some.range)
+    ∙ (ap (λ (s : State). length s.registers) c.index-lies-j.is
+    ∙ c.requires.lies.deep c.loop-j.j c.index-lies-j.result lies))
 
 pub returns-clause-room : goal.returns-clause-room
 returns-clause-room c = record {
@@ -59,15 +56,22 @@ returns-clause-each c =
 
 pub copy_from-requires : goal.copy_from-requires
 copy_from-requires c =
-    let script = c.args.round.now.script.now in
-    let few = few_lie c.args.round.now in
+    let few = c.len-few.ensures in
     let nodes = ap (λ (s : FaultIds). s.nodes) c.args.round.now.liars in
     let lies : c.loop-j.j < length c.args.lies.now =
-    omega (arith, c.loop-j-test.true, c.requires.stretch, few, c.requires.lies.size) in
-    let some = subst (IsOfSome script) (sym c.index-lies-j.is)
-    (c.requires.lies.states c.loop-j.j c.index-lies-j.result lies) in
+    omega (
+      arith,
+      c.loop-j-test.true,
+      c.requires.stretch,
+      few.exact,
+      few.within,
+      nodes,
+      c.args.round.now.nodes,
+      c.requires.lies.size,
+    ) in
     let long = c.requires.room.size in
     let size = c.loop-j.invariant.size in
-    depth_of_node script.shape some.node _ some.range
+    ap (λ (s : State). length s.registers) c.index-lies-j.is
+    ∙ c.requires.lies.deep c.loop-j.j c.index-lies-j.result lies
     ∙ sym (c.loop-j.invariant.deep c.at.result c.index-heard-at.result
     (omega (arith, c.at.ensures.node, nodes, long, size)))

@@ -22,7 +22,7 @@ advance-requires-clause-step g c =
     can_step plan script layer kept t turn.v config can _ c.args.room.now.heard.items
     (c.of-heard.ensures ∙ c.deref.ensures.value) c.shown_at-output.result
     (c.shown_at-output.ensures ∙ ap (λ (d : ℕ). shown d (state_of config turn.v)) c.depth.ensures)
-    c.requires.set.ready.heard.size c.args.room.now.out c.requires.set.ready.out
+    c.requires.set.ready.heard.size c.args.room.now.step.out c.requires.set.ready.step.out
     (λ some. let e = c.requires.enough some in e.some)
 
 pub returns : goal.returns
@@ -46,7 +46,7 @@ returns g c =
       layer = c.advance.ensures.layer;
       kept = c.advance.ensures.kept ∙ ap (λ s. slice_set kept turn.v s.kept) step;
       out = c.advance.ensures.out
-          ∙ ap (λ s. layered layer s.registers c.args.room.now.out) step;
+          ∙ ap (λ s. layered layer s.registers c.args.room.now.step.out) step;
       work = as_roomy script.nodes c.args.room.now.work c.advance.new.work
           c.advance.ensures.work c.requires.set.ready.work;
       same = search rules;

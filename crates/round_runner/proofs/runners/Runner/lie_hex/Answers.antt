@@ -32,11 +32,12 @@ invariant_of-self g c =
       ready = record {
         noise = c.lie_into.ensures.noise ∙ kept.ready.noise;
         heard = kept.ready.heard;
-        told = kept.ready.told;
-        lies = kept.ready.lies;
-        shared = kept.ready.shared;
         work = kept.ready.work;
-        out = depth_of_node c.self.inside.script.shape c.args.u _ c.lie_into.ensures.range;
+        step = record {
+          lies = kept.ready.step.lies;
+          shared = kept.ready.step.shared;
+          out = depth_of_node c.self.inside.script.shape c.args.u _ c.lie_into.ensures.range;
+        };
       };
       shape = kept.shape;
       size = kept.size;

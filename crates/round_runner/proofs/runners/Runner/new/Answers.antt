@@ -15,6 +15,13 @@ use Rattle.round_runner.proofs.Fitting.{layer_fits}
 use Rattle.round_runner.proofs.Playing.{begins}
 use Rattle.round_runner.proofs.runners.Runner.new.Goals as goal
 
+pub room_for-requires-clause-deep : goal.room_for-requires-clause-deep
+room_for-requires-clause-deep g c =
+    let fits = layer_fits c.args.tower (g.O.Overlay.layer c.args.overlay) c.args.script.shape
+    c.tell.ensures c.requires.plan.shape
+    (subst IsShape (sym c.requires.shape) c.facts.ensures) c.requires.plan.over in
+    let deep = fits.depth in omega (arith, deep)
+
 pub start_all-requires-clause-config : goal.start_all-requires-clause-config
 start_all-requires-clause-config g c = record {
   shape = ap (λ (p : Pack). p.shape) c.in_ok-states.ensures ∙ sym c.requires.shape;
@@ -45,11 +52,12 @@ invariant_of-result g c =
       ready = record {
         noise = c.start_all.ensures.noise;
         heard = room.heard;
-        told = room.told;
-        lies = room.lies;
-        shared = room.shared;
         work = room.work;
-        out = c.start_all.ensures.out;
+        step = record {
+          lies = room.step.lies;
+          shared = room.step.shared;
+          out = c.start_all.ensures.out;
+        };
       };
       shape = c.start_all.ensures.shape
           ∙ (ap (λ (p : Pack). p.shape) c.in_ok-states.ensures ∙ sym c.requires.shape);

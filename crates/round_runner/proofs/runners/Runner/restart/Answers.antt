@@ -24,7 +24,7 @@ start_all-requires-clause-noise g c =
 
 pub start_all-requires-clause-out : goal.start_all-requires-clause-out
 start_all-requires-clause-out g c =
-    c.self.invariant.ready.out ∙ sym (ap (λ (s : Script). s.shape.depth) c.set_key.ensures)
+    c.self.invariant.ready.step.out ∙ sym (ap (λ (s : Script). s.shape.depth) c.set_key.ensures)
 
 pub is_locked-locked-requires-clause-nodes : goal.is_locked-locked-requires-clause-nodes
 is_locked-locked-requires-clause-nodes g c =

@@ -71,10 +71,6 @@ invariant_of-round g c =
       liars = c.era_faulty.ensures ∙ ap (λ (j : ℕ). let set : FaultIds =
           record { nodes = script.nodes; ids = faulty_of_era script j } in set) kept.here;
       left = subst (λ (r : Running _). r.at < r.script.rounds) (sym c.self.view_is) c.requires;
-      takes = record {
-        deep = omega (arith, kept.fits.depth);
-        counts = λ v lt. kept.fits.counts v (omega (arith, lt, kept.right.nodes));
-      };
       behind = c.beginning_in.ensures;
     }
 

@@ -20,7 +20,7 @@ use Rattle.round_runner.proofs.skipping.Runner+NoOverlay.skip.Goals.{else-at-to-
 
 pub grow-requires : goal.grow-requires
 grow-requires c =
-    c.self.invariant.ready.out ∙ sym (ap (λ (s : Shape). s.depth) c.self.invariant.shape)
+    c.self.invariant.ready.step.out ∙ sym (ap (λ (s : Shape). s.depth) c.self.invariant.shape)
 
 pub invariant_of-self : goal.invariant_of-self
 invariant_of-self c =
@@ -43,11 +43,12 @@ invariant_of-self c =
       ready = record {
         noise = ready.noise;
         heard = ready.heard;
-        told = ready.told;
-        lies = ready.lies;
-        shared = ready.shared;
         work = ready.work;
-        out = c.grow.ensures.depth ∙ ready.out;
+        step = record {
+          lies = ready.step.lies;
+          shared = ready.step.shared;
+          out = c.grow.ensures.depth ∙ ready.step.out;
+        };
       };
       shape = ap (λ (p : Pack). p.shape) c.flip.ensures
           ∙ (ap (λ (p : Pack). p.shape) c.grow.ensures.states ∙ kept.shape);

@@ -9,6 +9,7 @@ use Rattle.plan_numbers.specs.Premises.{IsAccepted}
 use Rattle.state_codec.specs.Packs.{Pack}
 use Rattle.state_codec.specs.Shapes.{Shape, shape_of}
 use Rattle.state_codec.proofs.Plans.{length-moduli_of}
+use Rattle.round_runner.specs.Rooms.{IsMadeFor}
 use Rattle.run_checker.specs.Grammar.{pairs_of, most_eras}
 use Rattle.run_checker.specs.Bodies.{BodySeen}
 use Rattle.run_checker.specs.Rounds.{AreStates}
@@ -61,7 +62,9 @@ invariant_of-result c =
           subst (AreStates tower) (sym (ap (λ (t : Telling). t.states) told))
           (no_states tower accepted);
       most = ap (λ (t : Telling). t.room) told ∙ sym (ap most_pairs plan);
-      room = c.in_ok-room.ensures;
+      zero = c.in_ok-zero.ensures ∙ ap zero_state c.depth.ensures;
+      room = subst (λ (d : ℕ). IsMadeFor tower d c.in_ok-room.room) c.depth-2.ensures
+          c.in_ok-room.ensures;
       sets = subst (λ (n : ℕ). All (λ (set : FaultIds). set ≡ no_ids n) c.in_ok-sets.sets.items)
           (c.nodes-3.ensures ∙ sym nodes) c.in_ok-sets.ensures.empty;
       eras = omega (arith, c.in_ok-sets.ensures.count, c.most_eras.ensures);

@@ -22,6 +22,9 @@ pub play-requires-clause-config : goal.play-requires-clause-config
 play-requires-clause-config c =
     record { size = c.self.invariant.size; shape = c.self.invariant.shape }
 
+pub play-requires-clause-zero : goal.play-requires-clause-zero
+play-requires-clause-zero c = c.self.invariant.zero
+
 pub play-requires-clause-room : goal.play-requires-clause-room
 play-requires-clause-room c = c.self.invariant.room
 
@@ -63,6 +66,7 @@ invariant_of-self c =
       told = subst (AreStates c.self.inside.tower)
           (sym (ap (λ (t : Telling). t.states) c.clear.ensures)) (none_are c.self.inside.tower);
       most = ap (λ (t : Telling). t.room) c.clear.ensures ∙ i.most;
+      zero = i.zero;
       room = c.play.ensures.room;
       sets = i.sets;
       eras = i.eras;

@@ -57,10 +57,9 @@ invariant_of-self c =
       kept = i.kept;
       told = i.told;
       most = i.most;
+      zero = i.zero;
       room = record {
-        size = i.room.size;
         lies = i.room.lies;
-        zero = i.room.zero;
         shared = i.room.shared;
         out = node_deep c.self.inside.tower c.tell.ensures c.args.v lt c.read_hex.new.out range;
       };

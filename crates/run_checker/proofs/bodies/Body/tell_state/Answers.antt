@@ -29,6 +29,7 @@ invariant_of-self c =
       kept = k.kept ∙ i.kept;
       told = k.states;
       most = k.room ∙ i.most;
+      zero = i.zero;
       room = i.room;
       sets = i.sets;
       eras = i.eras;

@@ -1,4 +1,5 @@
-use Rattle.std.proofs.Common.{◌<◌, ℕ, List, All, refl, ap, ◌∙◌, subst, arith}
+use Rattle.std.proofs.Common.{◌+◌, ◌<◌, ℕ, Bool, not, List, All, refl, ap, ◌∙◌, subst, arith}
+use Rattle.std.specs.Int.{from_bool}
 use Rattle.construction.specs.Plans.{plan_nodes}
 use Rattle.sync_types.specs.States.{State}
 use Rattle.shared_board.specs.Sharing.{Shares}
@@ -45,9 +46,7 @@ loop-v-init g c =
         said = c.requires.said;
         is = c.requires.config;
         ready = record {
-          size = room.size;
           lies = room.lies;
-          zero = room.zero;
           shared = ap (λ (s : Shares). s.plan) c.gather.ensures.stands;
           out = room.out;
         };
@@ -62,10 +61,14 @@ step_one-requires g c = record {
       c.loop-v.config c.loop-v.room c.loop-v.invariant.fixed c.loop-v.invariant.room;
 }
 
+-- so many correct nodes stand before the next node
 pub overflow_add-before : goal.overflow_add-before
 overflow_add-before g c =
-    let few = few_correct c.args.self.now.faulty.now.ids c.loop-v.v in
-    omega (arith, few, c.loop-v.invariant.before, c.correct_at-before.ensures.most)
+    let ids = c.args.self.now.faulty.now.ids in
+    let more = count_more ids c.loop-v.v in
+    let few = few_correct ids (c.loop-v.v + 1) in
+    let one = c.from-before.ensures ∙ ap (λ (b : Bool). from_bool (not b)) c.contains.ensures in
+    omega (arith, few, more, one, c.loop-v.invariant.before)
 
 pub loop-v-preserved : goal.loop-v-preserved
 loop-v-preserved g c =
@@ -73,7 +76,9 @@ loop-v-preserved g c =
     let fixed = h.fixed in
     let lt : c.loop-v.v < plan_nodes c.args.self.now.tower.now =
     omega (arith, c.loop-v-test.true, c.nodes-v-end.ensures) in
-    let more = count_more c.args.self.now.faulty.now.ids c.loop-v.v in
+    let ids = c.args.self.now.faulty.now.ids in
+    let more = count_more ids c.loop-v.v in
+    let one = c.from-before.ensures ∙ ap (λ (b : Bool). from_bool (not b)) c.contains.ensures in
     record {
       stepped = rw (c.step_one.ensures.config, fixed)
           (one_stepped c.args.self.now.tower.now c.args.self.now.faulty.now.ids
@@ -81,7 +86,7 @@ loop-v-preserved g c =
           c.args.config.now.current c.args.self.now.told.now.states c.loop-v.v c.loop-v.config.next
           lt h.stepped);
       fixed = rw (c.step_one.ensures.config, fixed) refl;
-      before = omega (arith, more, h.before, c.correct_at-before.ensures.value);
+      before = omega (arith, more, one, h.before);
       room =
           gathered_out c.args.self.now.tower.now c.args.self.now.faulty.now.ids
           c.args.self.now.told.now.states c.args.config.now c.loop-v.config.next
