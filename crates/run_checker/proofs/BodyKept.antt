@@ -26,6 +26,7 @@ use Rattle.run_checker.specs.Tellings.{Telling, AddsState}
 use Rattle.std.specs.List.{flat_map}
 use Rattle.std.proofs.lemmas.Bool.{and_parts, eqb-true, ltb-true, lt-ltb, le-ltb, ne_eqb}
 use Rattle.run_checker.specs.Rounds.{AreStates, IsTold}
+use Rattle.adversary_script.specs.Scripts.{most_rounds}
 
 module _ (plan : Plan) (accepted : IsAccepted plan) where
   -- a state of a node's fields is one of the counter
@@ -129,9 +130,9 @@ none_are plan = record {
 }
 
 -- a round is left if all of one was told
-pub round_left : (at m n : ℕ) → (nat_lt at 1000000 && eqb m n) ≡ true → at + 1 ≤ 1000000
+pub round_left : (at m n : ℕ) → (nat_lt at most_rounds && eqb m n) ≡ true → at + 1 ≤ most_rounds
 round_left at m n e =
-    let lt = ltb-true at 1000000 (and_parts (nat_lt at 1000000) (eqb m n) e).0 in
+    let lt = ltb-true at most_rounds (and_parts (nat_lt at most_rounds) (eqb m n) e).0 in
     omega (arith, lt)
 
 told_whole : (b : Bool) (m n : ℕ) → (b && eqb m n) ≡ true → m ≡ n

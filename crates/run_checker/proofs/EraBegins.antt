@@ -9,6 +9,7 @@ use Rattle.std.proofs.lemmas.Option.{same_Some}
 use Rattle.std.proofs.lemmas.Bool.{eqb-false}
 use Rattle.std.proofs.lemmas.List.Sums.{sum_by-cons}
 use Rattle.adversary_script.specs.Scripts.{Era}
+use Rattle.adversary_script.proofs.EraLists.{tail_rises}
 
 abbrev pub begun : ℕ → List ℕ → ℕ
 begun t fs = count_by (λ f. leb f t) fs
@@ -21,11 +22,6 @@ first_is t era = eqb era.first t
 
 pub begun_more : (t f : ℕ) (fs : List ℕ) → begun t (f ∷ fs) ≡ cond (leb f t) 1 0 + begun t fs
 begun_more t f fs = sum_by-cons (λ g. cond (leb g t) 1 0) f fs
-
-tail_rises : (x : ℕ) (xs : List ℕ) → IsStrictlyIncreasing (x ∷ xs) → IsStrictlyIncreasing xs
-tail_rises x xs h =
-    λ k l. let e : suc k + 1 ≡ suc (k + 1) = omega arith in
-    subst (λ m. get_or (x ∷ xs) (suc k) 0 < get_or (x ∷ xs) m 0) e (h (suc k) (omega arith))
 
 -- before the first none has begun
 none_begun : (t f : ℕ) (fs : List ℕ) → IsStrictlyIncreasing (f ∷ fs) → t < f → begun t (f ∷ fs) ≡ 0

@@ -30,6 +30,7 @@ use Rattle.run_checker.proofs.Tests.{borne_declared}
 use Rattle.run_checker.proofs.Head.{none_is, back_by, least_plan, most_plan}
 use Rattle.run_checker.proofs.Live.{Ends, IsAlive, end_after_row, end_in_round, end_in_starts}
 use Rattle.run_checker.proofs.Whole.{reaches}
+use Rattle.adversary_script.specs.Scripts.{most_rounds}
 
 abbrev IsVersion : ℕ → Type 0
 IsVersion version = (1 ≤ version) × (version ≤ 3)
@@ -77,7 +78,7 @@ next_there u v zero (p ∷ ps) e = omega arith
 next_there u v (suc i) [] e = absurd cc
 next_there u v (suc i) (p ∷ ps) e = omega (arith, next_there u v i ps e)
 
-alive_again : (k m : Known) → m.plan ≡ k.plan → m.stand.faulty ≡ k.stand.faulty → m.at ≤ 1000000
+alive_again : (k m : Known) → m.plan ≡ k.plan → m.stand.faulty ≡ k.stand.faulty → m.at ≤ most_rounds
     → IsAlive k → IsAlive m
 alive_again k m p f a h = record {
   accepted = subst IsAccepted (sym p) h.accepted;
@@ -90,8 +91,8 @@ alive_again k m p f a h = record {
 after_row : (k : Known) → IsAlive k → IsGood (telling k [])
 after_row k h = (h, omega arith, inl refl)
 
-next_round : (k : Known) → has_round k ≡ true → k.at + 1 ≤ 1000000
-next_round k h = let x : k.at < 1000000 = ltb-true _ _ h in omega arith
+next_round : (k : Known) → has_round k ≡ true → k.at + 1 ≤ most_rounds
+next_round k h = let x : k.at < most_rounds = ltb-true _ _ h in omega arith
 
 pub good_step : (stage : Stage) (item : Item) (t : Stage) → IsGood stage → step stage item ≡ goes t
     → IsGood t

@@ -31,6 +31,7 @@ use Rattle.run_checker.proofs.Starts.{AllFit, needs, none_needed, no_needs}
 use Rattle.run_checker.proofs.Tests.{lies_fit, count_told, row_tested, puts_fit}
 use Rattle.run_checker.proofs.LiveLines.{end_line, lie_line, start_line, zero_row, zero_row_is}
 use Rattle.run_checker.proofs.LiveLines.{zero_row_line, zeros, zeros_fit}
+use Rattle.adversary_script.specs.Scripts.{most_rounds}
 
 -- ---- the rest of a round
 
@@ -98,7 +99,7 @@ pub record Ends (stage : Stage) : Type 0 where
 pub record IsAlive (k : Known) : Type 0 where
   pub accepted : IsAccepted k.plan
   pub ids : All (λ id. id < plan_nodes k.plan) k.stand.faulty
-  pub most : k.at ≤ 1000000
+  pub most : k.at ≤ most_rounds
 
 pub end_after_row : (k : Known) → Ends (telling k [])
 end_after_row k =
@@ -116,7 +117,8 @@ end_in_round k told alive round few =
     let ps : List (ℕ × ℕ) = drop (length told) (pairs_of (plan_nodes k.plan) k.stand.faulty) in
     let lies = map (lie_at k.plan) ps in
     let row = zero_row k.plan k.stand.faulty in
-    let next : k.at + 1 ≤ 1000000 = let x : k.at < 1000000 = ltb-true _ _ round in omega arith in
+    let next : k.at + 1 ≤ most_rounds = let x : k.at < most_rounds = ltb-true _ _ round in omega
+    arith in
     let size : length (all_lies k told lies)
     ≡ length (pairs_of (plan_nodes k.plan) k.stand.faulty) =
     omega (

@@ -31,6 +31,7 @@ use Rattle.std.proofs.lemmas.List.Sums.{sum_by-cons}
 use Rattle.run_checker.specs.Items.{IsShort, HasLine, row_word, start_item, row_item}
 use Rattle.run_checker.specs.Items.{lie_item, end_item}
 use Rattle.run_checker.specs.Grammar.{IsRow}
+use Rattle.adversary_script.specs.Scripts.{most_rounds}
 
 -- ---- the digits of the zero state
 
@@ -170,7 +171,7 @@ zero_row_is plan faulty = record { size = marks (range_with_len 0 (plan_nodes pl
   marks [] = refl
   marks (v ∷ vs) = rw (some_word (is_in faulty v), marks vs) refl
 
-pub zero_row_line : (plan : Plan) (faulty : List ℕ) (t : ℕ) → IsAccepted plan → t ≤ 1000000
+pub zero_row_line : (plan : Plan) (faulty : List ℕ) (t : ℕ) → IsAccepted plan → t ≤ most_rounds
     → HasLine (row_item t (zero_row plan faulty))
 zero_row_line plan faulty t h few =
     let n = few_nodes plan h in

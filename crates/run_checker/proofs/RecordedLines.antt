@@ -30,6 +30,7 @@ use Rattle.run_checker.specs.Items.{level_item, faulty_item, start_item, row_ite
 use Rattle.run_checker.specs.Items.{era_item}
 use Rattle.run_checker.specs.Certificates.{spares_said, level_of}
 use Rattle.run_checker.specs.Stated.{Snapshot, shown_row}
+use Rattle.adversary_script.specs.Scripts.{most_rounds}
 
 -- a number of a plan or a script
 abbrev pub IsSmall : ℕ → Type 0
@@ -154,7 +155,7 @@ module _ (plan : Plan) (accepted : IsAccepted plan) where
         (arith, ids_length (codes "faulty") faulty (ids_below faulty borne), few faulty borne);
   }
 
-  pub era_line : (t : ℕ) (faulty : List ℕ) → t ≤ 1000000 → IsToleratedBy plan faulty
+  pub era_line : (t : ℕ) (faulty : List ℕ) → t ≤ most_rounds → IsToleratedBy plan faulty
       → HasLine (era_item t faulty)
   era_line t faulty le borne = record {
     words = (omega arith, ids_short faulty borne);
@@ -264,7 +265,7 @@ module _ (plan : Plan) (accepted : IsAccepted plan) where
   short_value None h = tt
   short_value (Some n) h = omega (arith, h)
 
-  pub row_line : (t : ℕ) (row : List (Option ℕ)) → t ≤ 1000000 → length row ≤ 256
+  pub row_line : (t : ℕ) (row : List (Option ℕ)) → t ≤ most_rounds → length row ≤ 256
       → All (λ o. IfSome o IsSmall) row → HasLine (row_item t row)
   row_line t row le few small = record {
     words = (
@@ -279,14 +280,14 @@ module _ (plan : Plan) (accepted : IsAccepted plan) where
       few,
     );
   } where
-    short_time : (t : ℕ) → t ≤ 1000000 → length (decimal t) ≤ 7
+    short_time : (t : ℕ) → t ≤ most_rounds → length (decimal t) ≤ 7
     short_time t le = length-decimal-le 7 t (omega arith) (omega arith) (omega arith)
 
   shown_word : (liar : Bool) (o : ℕ) → IsSmall o → IfSome (cond liar None (Some o)) IsSmall
   shown_word true o h = tt
   shown_word false o h = h
 
-  pub shown_row_line : (t : ℕ) (x : Snapshot) → t ≤ 1000000 → IsConfiguration plan x.config
+  pub shown_row_line : (t : ℕ) (x : Snapshot) → t ≤ most_rounds → IsConfiguration plan x.config
       → HasLine (row_item t (shown_row plan x))
   shown_row_line t x le is =
       let word : ℕ

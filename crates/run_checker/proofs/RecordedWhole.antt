@@ -16,7 +16,7 @@ use Rattle.construction.specs.Runs.{is_in, IsToleratedBy}
 use Rattle.plan_numbers.specs.Premises.{IsAccepted, LevelsAccepted}
 use Rattle.state_codec.proofs.Digits.{text_is_taken}
 use Rattle.adversary_script.specs.Scripts as scripts
-use Rattle.adversary_script.specs.Scripts.{Script}
+use Rattle.adversary_script.specs.Scripts.{Script, most_rounds}
 use Rattle.adversary_script.specs.Eras.{era_of, faulty_at}
 use Rattle.round_runner.specs.Laws.{IsReadFor}
 use Rattle.round_runner.specs.Locks.{correct_nodes}
@@ -97,7 +97,8 @@ module _ (plan : Plan) (s : Script) (is : IsReadFor plan s) where
       All-filter p (λ v. v < plan_nodes plan) (range_with_len 0 (plan_nodes plan))
       (below_range (plan_nodes plan))
 
-  era_lines : (t : ℕ) (found : Option scripts.Era) → t + 1 ≤ 1000000 → era_at plan s (t + 1) ≡ found
+  era_lines : (t : ℕ) (found : Option scripts.Era) → t + 1 ≤ most_rounds → era_at plan s (t + 1)
+      ≡ found
       → All HasLine (era_items (t + 1) (era_with plan s t found))
   era_lines t None le e = All-nil HasLine
   era_lines t (Some era) le e =
@@ -112,7 +113,7 @@ module _ (plan : Plan) (s : Script) (is : IsReadFor plan s) where
   end_line : HasLine end_item
   end_line = record { words = tt; short = omega arith }
 
-  turns_lines : (k t : ℕ) → t + k ≤ 1000000
+  turns_lines : (k t : ℕ) → t + k ≤ most_rounds
       → All HasLine (turns_items (t + 1) (map (turn_at plan s) (range_with_len t k)))
   turns_lines zero t le = All-cons HasLine end_item [] end_line (All-nil HasLine)
   turns_lines (suc k) t le =

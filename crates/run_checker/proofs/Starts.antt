@@ -65,11 +65,6 @@ module _ (plan : Plan) (unknown faulty : List ℕ) where
   RisesFrom from [] = Unit {0}
   RisesFrom from (put ∷ puts) = (from ≤ put.node) × RisesFrom (put.node + 1) puts
 
-  tail_rises : (x : ℕ) (xs : List ℕ) → IsStrictlyIncreasing (x ∷ xs) → IsStrictlyIncreasing xs
-  tail_rises x xs h =
-      λ k l. let e : suc k + 1 ≡ suc (k + 1) = omega arith in
-      subst (λ m. get_or (x ∷ xs) (suc k) 0 < get_or (x ∷ xs) m 0) e (h (suc k) (omega arith))
-
   rises : (put : Put) (puts : List Put) → IsStrictlyIncreasing (nodes_of (put ∷ puts))
       → RisesFrom (put.node + 1) puts
   unfolding RisesFrom

@@ -25,6 +25,7 @@ use Rattle.run_checker.specs.Checking.{has_round, all_told, renewed, is_borne}
 use Rattle.run_checker.proofs.Complete.{put_all, PutsPass, lie_state, LiesPass, all_lies}
 use Rattle.run_checker.proofs.Complete.{BehindPass, behind, TurnsPass, at_behind}
 use Rattle.run_checker.proofs.Starts.{AllFit, starts_fit, starts_declared}
+use Rattle.adversary_script.specs.Scripts.{most_rounds}
 
 -- ---- rows
 
@@ -263,7 +264,7 @@ count_more : (turn : Turn) (turns : List Turn)
 count_more turn turns = sum_by-cons (λ t. cond (is_some t.era) 1 0) turn turns
 
 pub turns_tested : (k : Known) (turns : List Turn) → AreTurns k.plan k.stand.faulty turns
-    → k.at + length turns ≤ 1000000 → k.eras + era_count turns ≤ most_eras k.version
+    → k.at + length turns ≤ most_rounds → k.eras + era_count turns ≤ most_eras k.version
     → TurnsPass k turns
 turns_tested k [] h rounds eras = tt
 turns_tested k (turn ∷ turns) h rounds eras =
@@ -319,10 +320,11 @@ behind_row k told (Some era) row h =
 
 pub record Turns (k : Known) (turns : List Turn) : Type 0 where
   pub are : AreTurns k.plan k.stand.faulty turns
-  pub rounds : k.at + length turns ≤ 1000000
+  pub rounds : k.at + length turns ≤ most_rounds
   pub eras : k.eras + era_count turns ≤ most_eras k.version
 
-pub turns_declared : (k : Known) (turns : List Turn) → k.at ≤ 1000000 → k.eras ≤ most_eras k.version
+pub turns_declared : (k : Known) (turns : List Turn) → k.at ≤ most_rounds
+    → k.eras ≤ most_eras k.version
     → TurnsPass k turns → Turns k turns
 turns_declared k [] most few h = record { are = tt; rounds = omega arith; eras = omega arith }
 turns_declared k (turn ∷ turns) most few h =
@@ -331,7 +333,7 @@ turns_declared k (turn ∷ turns) most few h =
     ≡ one_era turn.era + era_count turns = count_more turn turns in
     let next = behind k told turn.era turn.row in
     let all = and_parts _ _ (behind_told k told turn.era turn.row h.1) in
-    let below : k.at < 1000000 = ltb-true _ _ all.0 in
+    let below : k.at < most_rounds = ltb-true _ _ all.0 in
     let size : length told ≡ length (pairs k) = eqb-true _ _ all.1 in
     let count : length told ≡ 0 + length turn.lies = count_told k [] turn.lies in
     let lies = lies_back k [] turn.lies (omega (arith, size, count)) h.0 in

@@ -12,6 +12,7 @@ use Rattle.round_runner.specs.Rooms.{IsMadeFor}
 use Rattle.run_checker.specs.Rounds.{AreStates}
 use Rattle.run_checker.specs.Sets.{no_ids}
 use Rattle.run_checker.specs.Tellings.{Telling, most_pairs}
+use Rattle.adversary_script.specs.Scripts.{most_rounds}
 
 -- What is known, and whether states are put; if so, of which nodes none is known, and from which on
 -- they may follow. What was told stands there too.
@@ -44,4 +45,4 @@ pub record IsBody (version : ℕ) (plan : Plan) (bad none_known : FaultIds) (pac
   pub sets : All (λ set. set ≡ no_ids (plan_nodes plan)) spare
   pub eras : length spare ≤ most_eras version
   pub from : behind ≤ plan_nodes plan
-  pub at : number ≤ 1000000
+  pub at : number ≤ most_rounds

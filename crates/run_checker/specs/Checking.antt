@@ -23,6 +23,7 @@ use Rattle.run_checker.specs.Grammar.{pairs_of, plan_version, most_eras}
 use Rattle.run_checker.specs.Stated.{Snapshot, Message, stepped, unless_faulty, shown_row}
 use Rattle.run_checker.specs.Stated.{same_rows}
 use Rattle.run_checker.specs.Stated.{verdict_by}
+use Rattle.adversary_script.specs.Scripts.{most_rounds}
 
 -- Configuration `at` of the stated run, and what its rows came to before it: how many eras have
 -- begun after rounds, the first row that differs, and the first locked configuration of the era.
@@ -175,7 +176,7 @@ is_next u v [] = false
 is_next u v (pair ∷ pairs) = nat_eq pair.0 u && nat_eq pair.1 v
 
 abbrev pub has_round : Known → Bool
-has_round k = nat_lt k.at 1000000
+has_round k = nat_lt k.at most_rounds
 
 abbrev pub all_told : Known → List State → Bool
 all_told k told =

@@ -12,6 +12,7 @@ use Rattle.state_codec.specs.Texts.{is_state_text}
 use Rattle.round_runner.specs.Locks.{correct_nodes}
 use Rattle.run_checker.specs.Items.{HasLine, item_line}
 use Rattle.run_checker.specs.Certificates.{Put, Era, Turn, Certificate, items_of}
+use Rattle.adversary_script.specs.Scripts.{most_rounds}
 
 -- each faulty node with each correct one, by sender and then by receiver
 abbrev pub pairs_of : (n : ℕ) → (faulty : List ℕ) → List (ℕ × ℕ)
@@ -72,7 +73,7 @@ pub record IsCertificate (c : Certificate) : Type 0 where
   pub starts : AreStarts c.plan (range_with_len 0 (plan_nodes c.plan)) c.faulty c.starts
   pub row : IsRow c.plan c.faulty c.row
   pub turns : AreTurns c.plan c.faulty c.turns
-  pub rounds : length c.turns ≤ 1000000
+  pub rounds : length c.turns ≤ most_rounds
   pub eras : era_count c.turns ≤ most_eras c.version
   pub lines : All HasLine (items_of c)
 

@@ -5,7 +5,7 @@ use Rattle.construction.specs.Plans.{plan_nodes}
 use Rattle.state_codec.specs.Shapes.{shape_of, shape_nodes}
 use Rattle.counter_core.specs.declared.overlays.NoOverlay.{NoOverlay}
 use Rattle.counter_core.specs.NoLayers.{no_layer}
-use Rattle.adversary_script.specs.Scripts.{Script, IsScript}
+use Rattle.adversary_script.specs.Scripts.{Script, IsScript, most_rounds}
 use Rattle.adversary_script.specs.Eras.{faulty_at}
 use Rattle.machine_runner.specs.Beginnings.{BeginsAt}
 use Rattle.round_runner.specs.Played.{played_at}
@@ -37,7 +37,7 @@ pub record HasLiar (r : Running NoOverlay) (u : ℕ) : Type 0 where
 pub record Begins (s : Script) (t j : ℕ) : Type 0 where
   pub script : IsScript s
   pub begins : BeginsAt s (t + 1) (Some j)
-  pub small : t < 1000000
+  pub small : t < most_rounds
 
 -- it plays the same script of the same plan, and is at a configuration of it
 pub record StillPlays (old new : Running NoOverlay) : Type 0 where

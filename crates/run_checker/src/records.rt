@@ -5,6 +5,7 @@ ghost use Rattle.run_checker.specs.Certificates.{certificate_text};
 ghost use Rattle.run_checker.specs.Recorded.{certificate_of, era_at};
 ghost use Rattle.run_checker.specs.RunLines.{era_lines, turn_text, turns_text, record_text};
 ghost use Rattle.run_checker.specs.Playing.{IsToRecord, StillPlays, HasPlayedOne, HasPlayedAll};
+ghost use Rattle.adversary_script.specs.Scripts.{most_rounds};
 
 use crate::head_lines::put_head;
 use crate::lie_lines::put_lies;
@@ -17,7 +18,7 @@ use round_runner::{Runner, beginning_at};
 
 /// Writes the era that begins with the runner's configuration, `t + 1`, if one does.
 fn put_era_lines<K: Sink>(writer: &mut Writer<'_, K>, runner: &mut Runner<NoOverlay>, t: u64)
-    requires small { t < 1000000 }
+    requires small { t < most_rounds }
     requires plays { IsToRecord runner.old }
     ensures text { Writes K.told (era_lines runner.old.plan runner.old.script t runner.old.states
         (era_at runner.old.plan runner.old.script (t + 1)))
