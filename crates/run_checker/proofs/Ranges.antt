@@ -9,17 +9,10 @@ use Rattle.std.proofs.lemmas.List.FromFn.{length-range_with_len, get_or-range_wi
 use Rattle.std.proofs.lemmas.Grind.{flat_map-append, take_at_read}
 use Rattle.std.proofs.lemmas.List.Elements.{filter-append}
 use Rattle.std.proofs.lemmas.List.Filters.{length-filter_both}
+use Rattle.texts.proofs.Ranges.{range_more}
 use Rattle.sync_types.specs.FaultSets.{is_in}
 use Rattle.round_runner.specs.Locks.{correct_nodes}
 use Rattle.run_checker.specs.Checking.{needs_state}
-
--- one more id
-more_ids : (a n b : ℕ) → a + n ≡ b → range_with_len a (suc n) ≡ range_with_len a n ++ b ∷ []
-more_ids a zero b e = let same : a ≡ b = omega (arith, e) in ap (λ c. c ∷ []) same
-more_ids a (suc n) b e = ap (λ rest. a ∷ rest) (more_ids (a + 1) n b (omega (arith, e)))
-
-pub range_more : (a n b : ℕ) → a + n ≡ b → range_with_len a (n + 1) ≡ range_with_len a n ++ b ∷ []
-range_more a n b e = ap (range_with_len a) (add-one n) ∙ more_ids a n b e
 
 -- the last of the ids below v is below v
 pub last_below : (v : ℕ) → 0 < length (range_with_len 0 v)

@@ -15,6 +15,7 @@ use Rattle.construction.specs.Plans.{Plan, plan_nodes}
 use Rattle.construction.specs.Runs.{is_in}
 use Rattle.run_checker.specs.NodeFields.{fields_of}
 use Rattle.state_codec.specs.Texts.{is_state_text}
+use Rattle.adversary_script.proofs.EraLists.{tail_rises}
 use Rattle.run_checker.specs.Certificates.{Put}
 use Rattle.run_checker.specs.Grammar.{AreStarts}
 use Rattle.run_checker.specs.Checking.{needs_state}

@@ -1,6 +1,7 @@
 use Rattle.std.proofs.Common.{◌∷◌, [], ◌++◌, List, ℕ, ap, sym, ◌∙◌, arith}
 use Rattle.sync_types.specs.FaultSets.{FaultIds}
-use Rattle.run_checker.proofs.Ranges.{range_more, last_below}
+use Rattle.texts.proofs.Ranges.{range_more}
+use Rattle.run_checker.proofs.Ranges.{last_below}
 use Rattle.run_checker.proofs.id_lists.all_nodes.Goals as goal
 
 pub push-requires-clause-above : goal.push-requires-clause-above
