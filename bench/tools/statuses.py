@@ -31,7 +31,7 @@ SAY_VERSION = {
     "bindings/counterlab.h": f'#define COUNTERLAB_VERSION "{VERSION}"',
     "bindings/rust/Cargo.toml": f'version = "{VERSION}.0"',
 }
-DRAWN = CRATES / "try_pictures" / "data" / "pictures"
+DRAWN = EXAMPLES / "pictures"
 # the kinds of `attack`, and for each word `run` a plan that it plays
 KINDS = ["noise", "frozen", "split", "king", "shadow", "half"]
 PLANS = {
@@ -42,6 +42,11 @@ NAMES = ["counterlab", "pulselab", "attack", "choose", "draw", "states", "sweep"
 # How many bytes an input of `run` may have.
 LIMIT = 2**20
 TOO_LONG = b"#\n" * (LIMIT // 2) + b"#"
+LONGEST = b"\n" * LIMIT
+# A counter of one node, and its node in the state 4.
+ONE_NODE = b"plan 1\nbase 5\nend\nnode 1\nid 0\nstate 80\nend\n"
+CELL_OF_4 = b"\x00\x01\x80"
+CUT_AT_0 = b"the input ends in packet 0, the first being 0, in the cell of node 0\n"
 # Less room than this is not asked for, and the steps in which it grows.
 STEP = 2**16
 
@@ -94,9 +99,20 @@ def counterlab_cases():
         stored(3, EXAMPLES, "refused_scripts/faulty_node", "run"),
         stored(4, EXAMPLES, "certificates/no_end", "check"),
         stored(5, EXAMPLES, "certificates/row_differs", "check"),
-        (8, ("run",), TOO_LONG, b"", b"the input is too long"),
+        (1, ("plan",), LONGEST, b"refused plan line 1048577 premise form\n", b""),
+        (0, ("node",), LONGEST[len(ONE_NODE):] + ONE_NODE, CELL_OF_4, b""),
+        *(told(8, (word,), TOO_LONG, b"the input is too long") for word in ("run", "plan")),
+        told(8, ("node",), LONGEST[len(ONE_NODE) - 1:] + ONE_NODE, b"the input is too long"),
         (*stored(9, FAULTS, "short/cut_packet", "node")[:4], b"the input ends in packet "),
+        (9, ("node",), ONE_NODE + b"\0", CELL_OF_4, CUT_AT_0),
     ]
+
+
+def record_checked(program):
+    """How `check` ends on a record that is longer than any text that is read at once."""
+    played = (TOP / "bench" / "inputs" / "demo_seven.txt").read_bytes()
+    record = ended(program, ["record"], input=played)[1]
+    return ended(program, ["check"], input=record if len(record) > LIMIT else b"")
 
 
 FOUR_PULSES = b"pulses 1\ngroup 4 1 10\nend\n"
@@ -216,12 +232,35 @@ def script_cases(name, words):
     ]
 
 
+# A pulse plan and a script of it, of which the rows are those of bench/tools/pulse_traces.py.
+TRACED_PULSES = (
+    FOUR_PULSES + b"script 1\nfaulty 1\nstart zero\nstart node 0 153000\nstart node 2 a60000\n"
+    b"start node 3 a60000\nlie 0 41 1 to all hex 34c000\nrounds 41\nshow 30 41\nend\n"
+)
+TRACE_OF_NODE_2 = (
+    b"at 1 node 2 number none output 0\n"
+    b"at 1 node 2 group 0 3 value none unmarked waits began right age 1 left unseen "
+    b"right unseen left said 0 none right said 0 none same 4 least none fires none\n"
+)
+COUNT_TO_4 = ONE_BY_THREE + b"script 1\nfaulty\nstart zero\nrounds 4\nshow 1 4\nend\n"
+COUNT_TO_1 = b"plan 1\nbase 5\nend\nscript 1\nfaulty\nstart zero\nrounds 1\nshow 0 1\nend\n"
+
+
 def trace_cases():
     liar = example("runs/two_faced_liar")
+    no_such = b"pulses 2\ngroup 1 0 3\nend\n"
+    two_alone = b"pulses 1\ngroup 2 0 3\nend\n"
+    one_liar = ONE_BY_THREE + b"script 1\nfaulty 0\n"
     return [
         *script_cases("trace", ["0", "1"]),
         told(2, ["0", "5"], liar, b"refused words: TO "),
         told(2, ["0", "1", "4"], liar, b"refused words: the plan has no such node"),
+        (0, ["0", "0"], COUNT_TO_1, b"at 0 node 0 number 0 output 0\n", b""),
+        (0, ["4", "4"], COUNT_TO_4, b"at 4 node 0 number 1 output 1\n", b""),
+        (0, ["1", "1", "2"], b"#\n" + TRACED_PULSES, TRACE_OF_NODE_2, b""),
+        told(1, ["0", "0"], no_such, b"refused plan line 1 premise form\n"),
+        told(1, ["0", "0"], two_alone, b"refused pulses line 2 premise single\n"),
+        told(3, ["0", "2"], one_liar, b"refused script line 5 rule faults\n"),
     ]
 
 
@@ -270,10 +309,33 @@ def draw_cases():
     ]
 
 
+# lines of values behind a plan of four lines that are refused, and the number of the line
+WRONG_VALUES = [
+    (5, b"values\n"),
+    (5, b"values 1\n"),
+    (5, b"values 65537\n"),
+    (5, b"values 5 5\n"),
+    (6, b"values 5\nvalues 4\n"),
+    (8, b"values 5\n\nvalues 5\nvalues 5\n"),
+]
+NOT_VALUES = b"line %d should be `values V`, V from 2 to 65536, at most twice and with one V\n"
+NOT_A_STATE = (
+    b"line %d should be `node V`, and behind it hex digits or `number X registers R, R`\n"
+)
+
+
 def states_cases():
     plan = example("plans/one_spare")
+    # states without a layer, and those of a plan without levels with one
+    bare = plan + b"node 0 0014\n#\nnode 3 registers infinite marked\n"
+    layered = b"plan 1\nbase 5\nend\nvalues 2\nnode 0 bc\n"
     return [
         own_run("states"),
+        (0, [], bare, b"node 0 number 0 registers 5\nnode 3 a8\n", b""),
+        (0, [], layered, b"node 0 number 0 registers infinite marked\n", b""),
+        *(told(1, [], plan + lines, NOT_VALUES % number) for number, lines in WRONG_VALUES),
+        told(1, [], plan + b"node 3 00\nvalues 5\n", NOT_A_STATE % 6),
+        told(1, [], plan + b"Values 5\n", NOT_A_STATE % 5),
         told(1, [], example("refused_plans/blocks"), b"line "),
         told(1, [], plan + b"node 0 00\n", b"line "),
         told(1, [], plan + b"values 1\n", b"line "),
@@ -375,7 +437,10 @@ def look_at(name, program, looks):
     for code, words, text, answer, begin in CASES[name]():
         what = " ".join([name, *words])
         looks.look(what, (code, answer, begin), ended, program, words, input=text)
-    if name != "counterlab":  # it has no such word
+    if name == "counterlab":
+        verdict = (0, b"true rows 3365 locked 314\n", b"")
+        looks.look(f"{name} check, of a record", verdict, record_checked, program)
+    else:  # counterlab has no such word
         said = (0, f"{name} {VERSION}\n".encode(), b"")
         looks.look(f"{name} --version", said, ended, program, ["--version"], input=b"")
     _, words, text, _, _ = CASES[name]()[0]

@@ -2,17 +2,7 @@
 //! what failed, or the words are no command, one line on standard error does ([`put_remark`]).
 #![tactic(auto)]
 
-#[cfg(test)]
-mod check_tests;
-#[cfg(test)]
-mod node_tests;
-#[cfg(test)]
-mod one_node_tests;
-#[cfg(test)]
-mod record_tests;
 mod remarks;
-#[cfg(test)]
-mod tests;
 
 use crate::remarks::put_remark;
 use edge_io::{StdSink, StdSource};

@@ -178,24 +178,20 @@ fn outputs_of(
 
 /// Writes why the last era of a script locks, with these outputs.
 fn write_why(out: &mut Text, plan: &Plan, script: &Script, outputs: &[u64]) {
-    match plan.levels.as_slice() {
-        [] => out.word("explain base\n"),
-        [lower @ .., top] => {
-            let shown = Shown {
-                top: *top,
-                all: plan.nodes(),
-                nodes: plan.group(lower.len()),
-                faults: match lower.last() {
-                    Some(under) => under.faults,
-                    None => 0,
-                },
-                outputs,
-                faulty: script.faulty_at(script.rounds),
-                last: script.rounds,
-            };
-            shown.write(out, script.era_at(script.rounds));
-        }
-    }
+    let Some(top) = plan.levels.last() else {
+        return out.word("explain base\n");
+    };
+    let below = plan.levels.len().saturating_sub(1);
+    let shown = Shown {
+        top: *top,
+        all: plan.nodes(),
+        nodes: plan.group(below),
+        faults: plan.faults_of(below),
+        outputs,
+        faulty: script.faulty_at(script.rounds),
+        last: script.rounds,
+    };
+    shown.write(out, script.era_at(script.rounds));
 }
 
 /// What `explain` writes of a plan and a script.

@@ -38,7 +38,7 @@ pub fn write_plan(text: &mut String, plan: &Plan) -> Result<(), AllocError> {
 }
 
 /// Writes the lines of a part of spans, each after a word.
-fn write_spans(
+pub fn write_spans(
     text: &mut String,
     part: &str,
     word: &str,
@@ -51,16 +51,6 @@ fn write_spans(
     }
     out.line("end", &[]);
     out.end()
-}
-
-/// Writes the lines of slots.
-pub fn write_slots(text: &mut String, slots: &[Span]) -> Result<(), AllocError> {
-    write_spans(text, "slots", "slot", slots)
-}
-
-/// Writes the lines of requests.
-pub fn write_requests(text: &mut String, requests: &[Span]) -> Result<(), AllocError> {
-    write_spans(text, "fire", "request", requests)
 }
 
 /// Writes the lines of an agreement on values below some number, with the input of each node.

@@ -59,16 +59,16 @@ impl Drop for Certificate {
 }
 
 /// A certificate whose lines are read down to that of the faulty nodes.
-fn front(alloc: Global, lines: &mut Lines) -> Result<Certificate, AllocError> {
+fn front(alloc: Global, lines: &mut Lines) -> Certificate {
     let version = lines.take_version(PART, 3);
     let base = take_base(lines, PART);
     let plan_version = if version == 3 { 2 } else { 1 };
-    let mut plan = Plan::of(alloc, plan_version, base, &[])?;
+    let mut plan = Plan::without_levels(alloc, plan_version, base);
     take_levels(lines, PART, &mut plan);
     lines.want_word(0, "faulty");
     let faulty = lines.numbers(alloc, 1);
     want_faulty(lines, &Sizes::of(&plan), &faulty, true);
-    Ok(Certificate {
+    Certificate {
         version,
         plan,
         faulty,
@@ -77,7 +77,7 @@ fn front(alloc: Global, lines: &mut Lines) -> Result<Certificate, AllocError> {
         rows: 0,
         differs: None,
         locked: None,
-    })
+    }
 }
 
 impl Certificate {
@@ -113,6 +113,16 @@ impl Certificate {
         end
     }
 
+    /// Reads the state of a node that the line has.
+    fn put_start(&mut self, alloc: Global, lines: &mut Lines, node: u64) {
+        lines.want_form(3, "start");
+        lines.want(!self.is_faulty(node), RULE);
+        let bytes = lines.bytes(alloc, 2, self.plan.bytes(node));
+        if let Some(state) = self.config.get_mut(node as usize) {
+            *state = read(&self.plan, node, &bytes);
+        }
+    }
+
     /// Takes the lines of states of correct nodes, of which each that is `unknown` has one, and the
     /// line after them.
     fn starts(&mut self, alloc: Global, lines: &mut Lines, unknown: &[u64]) {
@@ -123,12 +133,7 @@ impl Certificate {
             if !lines.begins("start") {
                 break;
             }
-            lines.want_form(3, "start");
-            lines.want(!self.is_faulty(node), RULE);
-            let bytes = lines.bytes(alloc, 2, self.plan.bytes(node));
-            if let Some(state) = self.config.get_mut(node as usize) {
-                *state = read(&self.plan, node, &bytes);
-            }
+            self.put_start(alloc, lines, node);
             next = node.wrapping_add(1);
         }
     }
@@ -206,7 +211,7 @@ impl Certificate {
     }
 
     /// Plays a round in which this is said. Faulty nodes are in no state.
-    fn round(&mut self, alloc: Global, lines: &mut Lines, told: &[State]) {
+    fn step(&mut self, alloc: Global, lines: &mut Lines, told: &[State]) {
         let mut config = Vec::new(alloc);
         let mut before = 0u64;
         for node in 0..self.plan.nodes() {
@@ -219,6 +224,13 @@ impl Certificate {
             }
         }
         self.config = config;
+    }
+
+    /// Takes the lies of a round, the first of which is taken, if there is any, and the line after
+    /// them; and plays the round.
+    fn round(&mut self, alloc: Global, lines: &mut Lines) {
+        let told = self.lies(alloc, lines);
+        self.step(alloc, lines, &told);
     }
 
     /// Takes the lines of an era that begins with configuration `at`, the first of which is taken,
@@ -243,8 +255,7 @@ impl Certificate {
                 break;
             }
             lines.want(at < MOST_ROUNDS, RULE);
-            let told = self.lies(alloc, lines);
-            self.round(alloc, lines, &told);
+            self.round(alloc, lines);
             if lines.begins("era") {
                 self.era(alloc, lines, at.wrapping_add(1));
             }
@@ -276,22 +287,23 @@ impl Certificate {
     }
 }
 
-/// The certificate of some lines.
-fn read_all(alloc: Global, lines: &mut Lines) -> Result<Certificate, Stop> {
-    let mut certificate = front(alloc, lines)?;
-    lines.result()?;
-    certificate.read_config(alloc, lines);
-    certificate.run(alloc, lines);
-    lines.result()?;
-    Ok(certificate)
+/// The certificate of some lines, as far as they are read.
+fn read_all(alloc: Global, lines: &mut Lines) -> Certificate {
+    let mut certificate = front(alloc, lines);
+    if !lines.is_stopped() {
+        certificate.read_config(alloc, lines);
+        certificate.run(alloc, lines);
+    }
+    certificate
 }
 
 /// What is written of a text, and the exit code.
 pub fn judged(alloc: Global, text: &[u8]) -> Result<(String, u8), AllocError> {
     let mut lines = Lines::of(text);
     lines.be_strict();
-    match read_all(alloc, &mut lines) {
-        Ok(certificate) => certificate.verdict(alloc),
+    let certificate = read_all(alloc, &mut lines);
+    match lines.result() {
+        Ok(()) => certificate.verdict(alloc),
         Err(Stop::Refused(refusal)) => {
             let line = refusal.line;
             let mut text = String::new(alloc);

@@ -302,11 +302,6 @@ impl<'a> Lines<'a> {
         version
     }
 
-    /// Takes the first line of a part of version 1.
-    pub fn take_first(&mut self, part: &'static str) {
-        self.take_version(part, 1);
-    }
-
     /// Wants no line after the last part.
     pub fn want_none(&mut self, part: &'static str) {
         let is_there = self.take_next(part);

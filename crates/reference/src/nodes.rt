@@ -107,7 +107,7 @@ pub fn answer(
 
 /// Takes the lines of a node.
 fn read_node(alloc: Global, plan: &Plan, lines: &mut Lines) -> Node {
-    lines.take_first(PART);
+    lines.take_version(PART, 1);
     lines.take(PART);
     let id = lines.only("id");
     lines.want(id < plan.nodes(), "node");

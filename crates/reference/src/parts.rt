@@ -58,22 +58,30 @@ fn read_number(lines: &mut Lines, part: &'static str, word: &str, least: u64, mo
     number
 }
 
+/// Whether all inputs are below a number.
+pub fn are_below(inputs: &[u64], values: u64) -> bool {
+    let mut are_below = true;
+    for input in inputs {
+        are_below &= *input < values;
+    }
+    are_below
+}
+
 /// Takes the lines of an agreement: below what the inputs are, and the input of each node.
-fn read_agreement(numbers: &Numbers, lines: &mut Lines, inputs: &mut Vec<u64>) -> u64 {
-    lines.take_first("agree");
+fn read_agreement(
+    alloc: Global,
+    numbers: &Numbers,
+    lines: &mut Lines,
+    inputs: &mut Vec<u64>,
+) -> u64 {
+    lines.take_version("agree", 1);
     want_slots(numbers, lines, numbers.slot());
     let values = read_number(lines, "agree", "values", 2, MOST_VALUES);
     lines.take("agree");
-    let is_named = lines.is(0, "inputs");
-    lines.want(is_named, "form");
-    let mut are_below = true;
-    for place in 1..lines.words() {
-        let input = lines.number(place);
-        are_below &= input < values;
-        lines.put(inputs, input);
-    }
+    lines.want_word(0, "inputs");
+    *inputs = lines.numbers(alloc, 1);
     lines.want(inputs.len() as u64 == numbers.nodes, "form");
-    lines.want(are_below, "range");
+    lines.want(are_below(inputs, values), "range");
     lines.take_end("agree");
     values
 }
@@ -115,7 +123,7 @@ fn read_log(
     lines: &mut Lines,
     commands: &mut Vec<Vec<u64>>,
 ) -> u64 {
-    lines.take_first("log");
+    lines.take_version("log", 1);
     want_slots(numbers, lines, numbers.turn());
     let values = read_number(lines, "log", "values", 2, MOST_VALUES);
     let _kept = read_number(lines, "log", "keep", 1, MOST_KEPT);
@@ -127,26 +135,6 @@ fn read_log(
     values
 }
 
-/// So many registers of a layer after those of a plan, with values below `values`.
-#[derive(Clone, Copy)]
-struct Behind {
-    registers: usize,
-    values: u64,
-}
-
-impl Behind {
-    /// So many registers, with values below `values`.
-    fn of(registers: usize, values: u64) -> Behind {
-        Behind { registers, values }
-    }
-}
-
-/// What stands after the registers of a plan if there is no layer.
-const NOTHING_BEHIND: Behind = Behind {
-    registers: 0,
-    values: 0,
-};
-
 impl Parts {
     /// The parts of an input that is not yet read.
     fn none(alloc: Global) -> Parts {
@@ -157,35 +145,36 @@ impl Parts {
         }
     }
 
-    /// Takes the lines of the part of a word, if it has one, and says what registers it has.
+    /// Takes the lines of the part of a word, if it has one, and says how many registers of a
+    /// layer it has, and below what their values are.
     fn read(
         &mut self,
         alloc: Global,
         word: &str,
         numbers: &Numbers,
         lines: &mut Lines,
-    ) -> (Part<'_>, Behind) {
+    ) -> (Part<'_>, usize, u64) {
         match word {
             "slots" => {
-                lines.take_first("slots");
+                lines.take_version("slots", 1);
                 read_spans(numbers, lines, "slots", &mut self.spans);
-                (Part::Slots(&self.spans), NOTHING_BEHIND)
+                (Part::Slots(&self.spans), 0, 0)
             }
             "fire" => {
-                lines.take_first("fire");
+                lines.take_version("fire", 1);
                 want_slots(numbers, lines, numbers.slot());
                 read_spans(numbers, lines, "fire", &mut self.spans);
-                (Part::Firing(&self.spans), Behind::of(1, 2))
+                (Part::Firing(&self.spans), 1, 2)
             }
             "consensus" => {
-                let values = read_agreement(numbers, lines, &mut self.inputs);
-                (Part::Agreement(&self.inputs), Behind::of(1, values))
+                let values = read_agreement(alloc, numbers, lines, &mut self.inputs);
+                (Part::Agreement(&self.inputs), 1, values)
             }
             "log" => {
                 let values = read_log(alloc, numbers, lines, &mut self.commands);
-                (Part::Log(&self.commands), Behind::of(2, values))
+                (Part::Log(&self.commands), 2, values)
             }
-            _ => (Part::Rows, NOTHING_BEHIND),
+            _ => (Part::Rows, 0, 0),
         }
     }
 }
@@ -194,8 +183,8 @@ impl Parts {
 pub fn play(alloc: Global, word: &str, lines: &mut Lines) -> Result<String, Stop> {
     let mut plan = read_plan(alloc, lines)?;
     let mut parts = Parts::none(alloc);
-    let (part, behind) = parts.read(alloc, word, &Numbers::of(&plan), lines);
-    plan.set_layer(behind.registers, behind.values);
+    let (part, registers, values) = parts.read(alloc, word, &Numbers::of(&plan), lines);
+    plan.set_layer(registers, values);
     let script = read_script(alloc, &Sizes::of(&plan), lines)?;
     Ok(runs::answer(alloc, &plan, &script, part)?)
 }
@@ -204,8 +193,8 @@ pub fn play(alloc: Global, word: &str, lines: &mut Lines) -> Result<String, Stop
 pub fn play_pulses(alloc: Global, word: &str, lines: &mut Lines) -> Result<String, Stop> {
     let mut plan = read_pulses(lines)?;
     let mut parts = Parts::none(alloc);
-    let (part, behind) = parts.read(alloc, word, &Numbers::of_pulses(&plan), lines);
-    plan.set_layer(behind.registers, behind.values);
+    let (part, registers, values) = parts.read(alloc, word, &Numbers::of_pulses(&plan), lines);
+    plan.set_layer(registers, values);
     let script = read_script(alloc, &Sizes::of_pulses(&plan), lines)?;
     Ok(pulse_runs::answer(alloc, &plan, &script, part)?)
 }

@@ -62,7 +62,7 @@ pub fn take_levels(lines: &mut Lines, part: &'static str, plan: &mut Plan) {
 pub fn read_plan(alloc: Global, lines: &mut Lines) -> Result<Plan, Stop> {
     let version = lines.take_version("plan", 2);
     let base = take_base(lines, "plan");
-    let mut plan = Plan::of(alloc, version, base, &[])?;
+    let mut plan = Plan::without_levels(alloc, version, base);
     take_levels(lines, "plan", &mut plan);
     lines.want_form(1, "end");
     lines.result()?;

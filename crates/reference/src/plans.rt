@@ -83,6 +83,17 @@ impl Level {
 }
 
 impl Plan {
+    /// A plan of a version and a base without levels.
+    pub fn without_levels(alloc: Global, version: u64, base: u64) -> Plan {
+        Plan {
+            version,
+            base,
+            levels: Vec::new(alloc),
+            behind: 0,
+            values: 0,
+        }
+    }
+
     /// A plan of a version with these levels, each of blocks, faults, a modulus and spare nodes.
     pub fn of(
         alloc: Global,
@@ -90,22 +101,16 @@ impl Plan {
         base: u64,
         lines: &[(u64, u64, u64, u64)],
     ) -> Result<Plan, AllocError> {
-        let mut levels = Vec::new(alloc);
+        let mut plan = Plan::without_levels(alloc, version, base);
         for (blocks, faults, modulus, spares) in lines {
-            levels.push(Level {
+            plan.levels.push(Level {
                 blocks: *blocks,
                 faults: *faults,
                 modulus: *modulus,
                 spares: *spares,
             })?;
         }
-        Ok(Plan {
-            version,
-            base,
-            levels,
-            behind: 0,
-            values: 0,
-        })
+        Ok(plan)
     }
 
     /// Puts so many registers of a layer after those of the levels, with values below `values`.
@@ -156,12 +161,17 @@ impl Plan {
         self.group(self.levels.len())
     }
 
-    /// How many faulty nodes the plan tolerates.
-    pub fn faults(&self) -> u64 {
-        match self.levels.last() {
+    /// How many faulty nodes a group of the lowest `depth` levels tolerates.
+    pub fn faults_of(&self, depth: usize) -> u64 {
+        match self.levels.get(depth.wrapping_sub(1)) {
             Some(level) => level.faults,
             None => 0,
         }
+    }
+
+    /// How many faulty nodes the plan tolerates.
+    pub fn faults(&self) -> u64 {
+        self.faults_of(self.levels.len())
     }
 
     /// The configuration from which all correct nodes count.

@@ -18,12 +18,13 @@ pub fn broken_base(base: u64) -> Option<&'static str> {
 
 /// The first premise that the level above the lowest `depth` ones fails.
 pub fn broken_level(plan: &Plan, depth: usize, level: &Level) -> Option<&'static str> {
-    let (faults_below, modulus_below) = match plan.levels.get(depth.wrapping_sub(1)) {
-        Some(below) => (below.faults, below.modulus),
-        None => (0, plan.base),
+    let modulus_below = match plan.levels.get(depth.wrapping_sub(1)) {
+        Some(below) => below.modulus,
+        None => plan.base,
     };
     let nodes = plan.group(depth.saturating_add(1));
-    let share = faults_below.wrapping_add(1).wrapping_mul(level.leaders());
+    let share = plan.faults_of(depth).wrapping_add(1);
+    let share = share.wrapping_mul(level.leaders());
     if level.blocks > 16 || level.faults > 85 || level.modulus > MOST || nodes > 256 {
         Some("limit")
     } else if level.blocks < 3 {

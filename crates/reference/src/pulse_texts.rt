@@ -12,7 +12,7 @@ const PART: &str = "pulses";
 
 /// Takes the lines of a pulse plan.
 pub fn read_pulses(lines: &mut Lines) -> Result<Group, Stop> {
-    lines.take_first(PART);
+    lines.take_version(PART, 1);
     lines.take(PART);
     lines.want_form(4, "group");
     let plan = Group::of(lines.number(1), lines.number(2), lines.number(3));

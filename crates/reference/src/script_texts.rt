@@ -41,6 +41,17 @@ pub fn want_faulty(lines: &mut Lines, sizes: &Sizes, ids: &[u64], is_behind: boo
     lines.want(ids.len() as u64 <= sizes.faults, "faults");
 }
 
+/// The start of the line, of a node that is at least `least`.
+fn read_start(alloc: Global, sizes: &Sizes, lines: &mut Lines, least: u64) -> Start {
+    lines.want_form(4, "start");
+    lines.want_word(1, "node");
+    let node = lines.number(2);
+    lines.want(node < sizes.nodes, "node");
+    lines.want(least <= node, "order");
+    let bytes = lines.bytes(alloc, 3, sizes.bytes(node));
+    Start { node, bytes }
+}
+
 /// Takes the lines of nodes' starts, and the line after them.
 fn read_starts(alloc: Global, sizes: &Sizes, lines: &mut Lines) -> Vec<Start> {
     let mut starts = Vec::new(alloc);
@@ -50,16 +61,27 @@ fn read_starts(alloc: Global, sizes: &Sizes, lines: &mut Lines) -> Vec<Start> {
         if !lines.begins("start") {
             break;
         }
-        lines.want_form(4, "start");
-        lines.want_word(1, "node");
-        let node = lines.number(2);
-        lines.want(node < sizes.nodes, "node");
-        lines.want(least <= node, "order");
-        least = node.wrapping_add(1);
-        let bytes = lines.bytes(alloc, 3, sizes.bytes(node));
-        lines.put(&mut starts, Start { node, bytes });
+        let start = read_start(alloc, sizes, lines, least);
+        least = start.node.wrapping_add(1);
+        lines.put(&mut starts, start);
     }
     starts
+}
+
+/// The era of the line and of its starts, for which there has to be room, after one that begins
+/// with configuration `before`. The line after them is taken.
+fn read_era(alloc: Global, sizes: &Sizes, lines: &mut Lines, has_room: bool, before: u64) -> Era {
+    lines.want_word(2, "faulty");
+    let first = lines.number(1);
+    let faulty = lines.numbers(alloc, 3);
+    lines.want(has_room, "limit");
+    want_faulty(lines, sizes, &faulty, before < first);
+    let starts = read_starts(alloc, sizes, lines);
+    Era {
+        first,
+        faulty,
+        starts,
+    }
 }
 
 /// Takes the lines of the eras, the first of which is taken if there is one, and the line after
@@ -71,18 +93,8 @@ fn read_eras(alloc: Global, sizes: &Sizes, lines: &mut Lines) -> Vec<Era> {
         if !lines.begins("era") {
             break;
         }
-        lines.want_word(2, "faulty");
-        let first = lines.number(1);
-        let faulty = lines.numbers(alloc, 3);
-        lines.want(eras.len() < MOST_ERAS, "limit");
-        want_faulty(lines, sizes, &faulty, before < first);
-        before = first;
-        let starts = read_starts(alloc, sizes, lines);
-        let era = Era {
-            first,
-            faulty,
-            starts,
-        };
+        let era = read_era(alloc, sizes, lines, eras.len() < MOST_ERAS, before);
+        before = era.first;
         lines.put(&mut eras, era);
     }
     eras
@@ -95,6 +107,25 @@ fn is_name(word: &[u8]) -> bool {
         is_name &= letter.is_ascii_lowercase();
     }
     is_name
+}
+
+/// The group of the line, for which there has to be room. Its name is put after `names`.
+fn read_group<'a>(
+    alloc: Global,
+    sizes: &Sizes,
+    lines: &mut Lines<'a>,
+    names: &mut Vec<&'a [u8]>,
+) -> Vec<u64> {
+    let has_form = lines.words() >= 3;
+    lines.want(has_form, "form");
+    let group = lines.numbers(alloc, 2);
+    lines.want(names.len() < MOST_LINES, "limit");
+    want_ids(lines, sizes, &group, true);
+    let name = lines.word(1);
+    let is_free = group_of(names, name) == names.len();
+    lines.want(is_free && is_name(name), "name");
+    lines.put(names, name);
+    group
 }
 
 /// Takes the lines of the groups, the first of which is taken if there is one, and the line after
@@ -110,19 +141,31 @@ fn read_groups<'a>(
         if !lines.begins("group") {
             break;
         }
-        let has_form = lines.words() >= 3;
-        lines.want(has_form, "form");
-        let group = lines.numbers(alloc, 2);
-        lines.want(groups.len() < MOST_LINES, "limit");
-        want_ids(lines, sizes, &group, true);
-        let name = lines.word(1);
-        let is_free = group_of(names, name) == names.len();
-        lines.want(is_free && is_name(name), "name");
-        lines.put(names, name);
+        let group = read_group(alloc, sizes, lines, names);
         lines.put(&mut groups, group);
         lines.take(PART);
     }
     groups
+}
+
+/// Takes the lines of the lies in a script whose groups have these names, the first of which is
+/// taken if there is one, and the line after them.
+fn read_lies(
+    alloc: Global,
+    sizes: &Sizes,
+    names: &[&[u8]],
+    lines: &mut Lines,
+    script: &mut Script,
+) {
+    for _ in 0..=lines.most() {
+        if !lines.begins("lie") {
+            break;
+        }
+        let has_room = script.rules.len() < MOST_LINES;
+        let rule = lie_of(alloc, sizes, names, script, lines, has_room);
+        lines.put(&mut script.rules, rule);
+        lines.take(PART);
+    }
 }
 
 /// Takes the lines of the groups and of the lies, the first of which is taken if there is one, and
@@ -130,15 +173,7 @@ fn read_groups<'a>(
 fn read_rules(alloc: Global, sizes: &Sizes, lines: &mut Lines, script: &mut Script) {
     let mut names = Vec::new(alloc);
     script.groups = read_groups(alloc, sizes, lines, &mut names);
-    for _ in 0..=lines.most() {
-        if !lines.begins("lie") {
-            break;
-        }
-        let has_room = script.rules.len() < MOST_LINES;
-        let rule = lie_of(alloc, sizes, &names, script, lines, has_room);
-        lines.put(&mut script.rules, rule);
-        lines.take(PART);
-    }
+    read_lies(alloc, sizes, &names, lines, script);
 }
 
 /// Takes the last lines, the first of which is taken: how many rounds are played, and the first and

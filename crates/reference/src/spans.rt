@@ -3,7 +3,6 @@
 use crate::lines::Lines;
 use crate::numbers::Numbers;
 use crate::plan_texts::want_none_broken;
-use crate::plans::Plan;
 
 /// How many spans there may be.
 const MOST_SPANS: usize = 256;
@@ -33,13 +32,8 @@ pub fn cover(spans: &[Span], node: u64, number: u64) -> bool {
     false
 }
 
-/// The first rule that a request fails.
-pub fn broken_request(plan: &Plan, request: &Span) -> Option<&'static str> {
-    broken_span(plan.nodes(), request)
-}
-
 /// The first rule that a span of one of so many nodes fails, whatever its numbers are of.
-fn broken_span(nodes: u64, span: &Span) -> Option<&'static str> {
+pub fn broken_span(nodes: u64, span: &Span) -> Option<&'static str> {
     if span.node >= nodes {
         Some("node")
     } else if span.first > span.last {

@@ -4,42 +4,50 @@ use crate::lines::Lines;
 use crate::plan_texts::{put_level, take_base};
 use crate::plans::{Level, Plan};
 use crate::refusals::Stop;
-use crate::tables::{PLAN_WORDS, in_line, level_words, numbers_at, whole_of};
+use crate::tables::{PLAN_WORDS, level_words, numbers_at, whole_of};
 use std::alloc::Global;
 
 /// The name of the part.
 const PART: &str = "table";
 
-/// Reads the numbers that stand after some words, the first of which is at a place of the line; the
-/// line has no word more.
-fn read_pairs(lines: &mut Lines, first: usize, words: &[&'static str], numbers: &mut [u64]) {
+/// Refuses the line by its form, unless these words, each with a number after it, are all that it
+/// has from a place on.
+fn want_pairs(lines: &mut Lines, first: usize, words: &[&'static str]) {
     let mut place = first;
-    for (word, number) in words.iter().zip(numbers) {
+    for word in words {
         lines.want_word(place, word);
-        *number = lines.number(place.saturating_add(1));
+        lines.number(place.saturating_add(1));
         place = place.saturating_add(2);
     }
     let has_form = lines.words() == place;
     lines.want(has_form, "form");
 }
 
+/// Whether these are the numbers at every second place of the line, where 0 is none.
+fn are_numbers(lines: &Lines, first: usize, numbers: &[u64]) -> bool {
+    let mut are_numbers = true;
+    let mut place = first;
+    for number in numbers {
+        are_numbers &= lines.number_at(place).unwrap_or(0) == *number;
+        place = place.saturating_add(2);
+    }
+    are_numbers
+}
+
 /// Puts the level of the line on a plan, all of whose numbers have to be right.
 fn read_level(lines: &mut Lines, plan: &mut Plan) {
-    let index = lines.number(1);
-    let mut numbers = [0; 10];
-    read_pairs(lines, 2, level_words(plan.version), &mut numbers);
-    let [blocks, _, _, faults, _, _, modulus, _, _, spares] = numbers;
+    want_pairs(lines, 0, level_words(plan.version));
     let level = Level {
-        blocks,
-        faults,
-        modulus,
-        spares,
+        blocks: lines.number(3),
+        faults: lines.number(9),
+        modulus: lines.number(15),
+        spares: lines.number_at(21).unwrap_or(0),
     };
     put_level(lines, plan, level);
     // a level that is refused may be of any size, and so its numbers take any time
     if !lines.is_stopped() {
         let right = numbers_at(plan, plan.levels.len());
-        let are_right = index == right.index && numbers == in_line(&level, &right);
+        let are_right = are_numbers(lines, 1, &right);
         lines.want(are_right, "value");
     }
 }
@@ -58,10 +66,10 @@ fn take_levels(lines: &mut Lines, plan: &mut Plan) {
 /// Reads the line of a plan, all of whose numbers have to be right, and takes the line that ends
 /// the table.
 fn read_whole(lines: &mut Lines, plan: &Plan) {
-    let mut numbers = [0; 6];
     lines.want_word(0, "plan");
-    read_pairs(lines, 1, &PLAN_WORDS, &mut numbers);
-    lines.want(numbers == whole_of(plan).in_line(), "value");
+    want_pairs(lines, 1, &PLAN_WORDS);
+    let are_right = are_numbers(lines, 2, &whole_of(plan));
+    lines.want(are_right, "value");
     lines.take_end(PART);
     lines.want_none(PART);
 }
@@ -71,10 +79,11 @@ pub fn table(alloc: Global, lines: &mut Lines) -> Result<String, Stop> {
     lines.be_strict();
     let version = lines.take_version(PART, 2);
     let base = take_base(lines, PART);
-    let mut plan = Plan::of(alloc, version, base, &[])?;
+    let mut plan = Plan::without_levels(alloc, version, base);
     take_levels(lines, &mut plan);
-    lines.result()?;
-    read_whole(lines, &plan);
+    if !lines.is_stopped() {
+        read_whole(lines, &plan);
+    }
     lines.result()?;
     Ok(String::from_str(alloc, "true\n")?)
 }

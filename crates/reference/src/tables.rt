@@ -3,71 +3,59 @@
 use crate::input_texts::write_plan;
 use crate::lines::Lines;
 use crate::plan_texts::read_plan;
-use crate::plans::{Level, Plan, width};
+use crate::plans::{Plan, width};
 use crate::refusals::Stop;
 use crate::texts::Text;
 use std::alloc::{AllocError, Global};
 
-/// What the numbers of the line of a level are called, after its index.
-const LEVEL_WORDS: [&str; 9] = [
-    "blocks", "leaders", "nodes", "faults", "beat", "span", "modulus", "bound", "bits",
+/// What stands before the numbers of the line of a level.
+const LEVEL_WORDS: [&str; 10] = [
+    "level", "blocks", "leaders", "nodes", "faults", "beat", "span", "modulus", "bound", "bits",
 ];
 
-/// What they are called in version 2.
-const SPARE_LEVEL_WORDS: [&str; 10] = [
-    "blocks", "leaders", "nodes", "faults", "beat", "span", "modulus", "bound", "bits", "spare",
+/// What stands before them in version 2.
+const SPARE_LEVEL_WORDS: [&str; LEVEL_NUMBERS] = [
+    "level", "blocks", "leaders", "nodes", "faults", "beat", "span", "modulus", "bound", "bits",
+    "spare",
 ];
 
-/// What the numbers of the line of a plan are called.
+/// What stands before the numbers of the line of a plan.
 pub const PLAN_WORDS: [&str; 6] = ["nodes", "faults", "modulus", "bound", "bits", "bytes"];
 
-/// The numbers of a level that follow from those of its line and the levels below.
-#[derive(Clone, Copy)]
-pub struct Numbers {
-    pub index: u64,
-    pub leaders: u64,
-    pub nodes: u64,
-    pub beat: u64,
-    pub span: u64,
-    pub bound: u64,
-    pub bits: u64,
-}
+/// How many numbers the line of a level has, the index among them and the last for the spares.
+pub const LEVEL_NUMBERS: usize = 11;
 
-/// The numbers of the whole plan.
-#[derive(Clone, Copy)]
-pub struct Whole {
-    pub nodes: u64,
-    pub faults: u64,
-    pub modulus: u64,
-    pub bound: u64,
-    pub bits: u64,
-    pub bytes: u64,
-}
-
-/// The numbers of the highest of the lowest levels of a plan, of so many.
-pub fn numbers_at(plan: &Plan, height: usize) -> Numbers {
-    let mut numbers = Numbers {
-        index: height as u64,
-        leaders: 0,
-        nodes: plan.group(height),
-        beat: 0,
-        span: 0,
-        bound: 0,
-        bits: width(plan.base),
-    };
-    for level in plan.levels.get(..height).unwrap_or(&[]) {
-        let value = width(level.modulus.wrapping_add(1));
-        numbers.leaders = level.leaders();
-        numbers.beat = level.beat();
-        numbers.span = level.span();
-        numbers.bound = numbers.bound.wrapping_add(numbers.span);
-        numbers.bits = numbers.bits.wrapping_add(value).wrapping_add(1);
+/// The numbers in the line of the highest of the lowest levels of a plan, of so many; none if it
+/// has fewer levels.
+pub fn numbers_at(plan: &Plan, height: usize) -> [u64; LEVEL_NUMBERS] {
+    let mut numbers = [0; LEVEL_NUMBERS];
+    let mut bound = 0u64;
+    let mut bits = width(plan.base);
+    for (depth, level) in plan.levels.iter().enumerate() {
+        if depth < height {
+            bound = bound.wrapping_add(level.span());
+            let value = width(level.modulus.wrapping_add(1));
+            bits = bits.wrapping_add(value).wrapping_add(1);
+            numbers = [
+                height as u64,
+                level.blocks,
+                level.leaders(),
+                plan.group(height),
+                level.faults,
+                level.beat(),
+                level.span(),
+                level.modulus,
+                bound,
+                bits,
+                level.spares,
+            ];
+        }
     }
     numbers
 }
 
-/// The numbers of each level.
-pub fn numbers_of(alloc: Global, plan: &Plan) -> Result<Vec<Numbers>, AllocError> {
+/// The numbers in the lines of all levels.
+pub fn numbers_of(alloc: Global, plan: &Plan) -> Result<Vec<[u64; LEVEL_NUMBERS]>, AllocError> {
     let mut all = Vec::new(alloc);
     for height in 1..=plan.levels.len() {
         all.push(numbers_at(plan, height))?;
@@ -75,19 +63,19 @@ pub fn numbers_of(alloc: Global, plan: &Plan) -> Result<Vec<Numbers>, AllocError
     Ok(all)
 }
 
-/// The numbers of a plan.
-pub fn whole_of(plan: &Plan) -> Whole {
-    Whole {
-        nodes: plan.nodes(),
-        faults: plan.faults(),
-        modulus: plan.modulus(),
-        bound: plan.bound(),
-        bits: plan.bits(0),
-        bytes: plan.bytes(0),
-    }
+/// The numbers in the line of a plan.
+pub fn whole_of(plan: &Plan) -> [u64; 6] {
+    [
+        plan.nodes(),
+        plan.faults(),
+        plan.modulus(),
+        plan.bound(),
+        plan.bits(0),
+        plan.bytes(0),
+    ]
 }
 
-/// What the numbers of the line of a level are called in a table of a version.
+/// What stands before the numbers of the line of a level in a table of a version.
 pub fn level_words(version: u64) -> &'static [&'static str] {
     if version == 2 {
         &SPARE_LEVEL_WORDS
@@ -96,42 +84,13 @@ pub fn level_words(version: u64) -> &'static [&'static str] {
     }
 }
 
-/// The numbers of the line of a level, after its index.
-pub fn in_line(level: &Level, numbers: &Numbers) -> [u64; 10] {
-    [
-        level.blocks,
-        numbers.leaders,
-        numbers.nodes,
-        level.faults,
-        numbers.beat,
-        numbers.span,
-        level.modulus,
-        numbers.bound,
-        numbers.bits,
-        level.spares,
-    ]
-}
-
-impl Whole {
-    /// The numbers of the line of a plan.
-    pub fn in_line(&self) -> [u64; 6] {
-        let Whole {
-            nodes,
-            faults,
-            modulus,
-            bound,
-            bits,
-            bytes,
-        } = *self;
-        [nodes, faults, modulus, bound, bits, bytes]
-    }
-}
-
-/// Writes words, each with its number after it, and the end of the line.
-fn write_pairs(out: &mut Text, words: &[&'static str], numbers: &[u64]) {
+/// Writes the front of a line, words, each with its number after it, and the end of the line.
+fn write_pairs(out: &mut Text, front: &'static str, words: &[&'static str], numbers: &[u64]) {
+    let mut is_first = true;
     for (word, number) in words.iter().zip(numbers) {
-        out.word(" ");
+        out.word(if is_first { front } else { " " });
         out.put(word, &[*number]);
+        is_first = false;
     }
     out.word("\n");
 }
@@ -140,22 +99,16 @@ fn write_pairs(out: &mut Text, words: &[&'static str], numbers: &[u64]) {
 pub fn write_table(
     text: &mut String,
     plan: &Plan,
-    all: &[Numbers],
-    whole: Whole,
+    all: &[[u64; LEVEL_NUMBERS]],
+    whole: &[u64],
 ) -> Result<(), AllocError> {
     let mut out = Text::behind(text);
     out.line("table", &[plan.version]);
     out.line("base", &[plan.base]);
-    for (level, numbers) in plan.levels.iter().zip(all) {
-        out.put("level", &[numbers.index]);
-        write_pairs(
-            &mut out,
-            level_words(plan.version),
-            &in_line(level, numbers),
-        );
+    for numbers in all {
+        write_pairs(&mut out, "", level_words(plan.version), numbers);
     }
-    out.word("plan");
-    write_pairs(&mut out, &PLAN_WORDS, &whole.in_line());
+    write_pairs(&mut out, "plan ", &PLAN_WORDS, whole);
     out.word("end\n");
     out.end()
 }
@@ -164,7 +117,7 @@ pub fn write_table(
 pub fn table_of(alloc: Global, plan: &Plan) -> Result<String, AllocError> {
     let all = numbers_of(alloc, plan)?;
     let mut table = String::new(alloc);
-    write_table(&mut table, plan, &all, whole_of(plan))?;
+    write_table(&mut table, plan, &all, &whole_of(plan))?;
     Ok(table)
 }
 

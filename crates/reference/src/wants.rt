@@ -1,6 +1,5 @@
 //! Plans of least bound: all plans that there are are tried.
 
-use crate::input_texts::write_levels;
 use crate::lines::Lines;
 use crate::plan_texts::want_none_broken;
 use crate::plans::{Level, quotient};
@@ -103,19 +102,27 @@ impl Tower {
         ]
     }
 
-    /// Writes the plan of these levels that counts by a modulus: each modulus is the span above it.
+    /// What the groups of the lowest `depth` levels count by in the plan that counts by a modulus:
+    /// the span of the level above them.
+    fn modulus_of(&self, depth: usize, modulus: u64) -> u64 {
+        match self.levels.get(depth) {
+            Some(level) if depth < self.height => level.span(),
+            _ => modulus,
+        }
+    }
+
+    /// Writes the plan of these levels that counts by a modulus.
     fn write_plan(&self, out: &mut Text, modulus: u64) {
-        let mut levels = self.levels;
-        let mut next = modulus;
-        for depth in (0..self.height).rev() {
-            if let Some(level) = levels.get_mut(depth) {
-                level.modulus = next;
-                next = level.span();
+        out.line("plan", &[1]);
+        out.line("base", &[self.modulus_of(0, modulus)]);
+        let mut height = 0usize;
+        for level in &self.levels {
+            if height < self.height {
+                height = height.wrapping_add(1);
+                let counts_by = self.modulus_of(height, modulus);
+                out.line("level", &[level.blocks, level.faults, counts_by]);
             }
         }
-        out.line("plan", &[1]);
-        out.line("base", &[next]);
-        write_levels(out, 1, levels.get(..self.height).unwrap_or(&[]));
         out.word("end\n");
     }
 }
@@ -217,7 +224,7 @@ pub fn answer(alloc: Global, want: Want) -> Result<String, AllocError> {
 
 /// What `find` writes.
 pub fn find(alloc: Global, lines: &mut Lines) -> Result<String, Stop> {
-    lines.take_first(PART);
+    lines.take_version(PART, 1);
     lines.take(PART);
     lines.want_form(4, "want");
     let want = Want {

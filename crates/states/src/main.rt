@@ -23,8 +23,6 @@ mod reading;
 mod reasons;
 mod requests;
 mod shaped;
-#[cfg(test)]
-mod tests;
 mod turning;
 mod writing;
 

@@ -37,8 +37,6 @@ mod pulse_node_lines;
 mod pulse_tracing;
 mod reasons;
 mod requests;
-#[cfg(test)]
-mod tests;
 mod tracing;
 mod views;
 mod wants;

@@ -1,7 +1,11 @@
 //! Tries the examples: what the workbench answers to each is compared with what is written beside
-//! it. It fails if one differs, or has no answer beside it.
+//! it. It fails if one differs, or has no answer beside it. In the folder `pictures` each stored
+//! picture or page is compared with what is drawn of the text of the same name.
 #![tactic(auto)]
 
+mod pictures;
+
+use crate::pictures::try_picture;
 use edge_io::{MemSink, PlainSource};
 use std::alloc::Global;
 use std::process::ExitCode;
@@ -100,9 +104,12 @@ fn is_stray(files: &[String], file: &str) -> bool {
     is_stray
 }
 
-/// Tries a file of a folder: its answers, if it is an example `NAME.txt`. Whether all are as they
-/// should be.
+/// Tries a file of a folder: a picture, or its answers, if it is an example `NAME.txt`. Whether all
+/// are as they should be.
 fn try_file(rt: &HostRuntime, folder: &str, file: &str, files: &[String]) -> anyhow::Result<bool> {
+    if folder == "pictures" {
+        return try_picture(rt, folder, file);
+    }
     if let Some(name) = file.strip_suffix(".txt") {
         return try_example(rt, folder, name, files);
     }

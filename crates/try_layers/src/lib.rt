@@ -1,6 +1,7 @@
-//! Tries the calls of nodes over packets and of the layers above a counter. There is nothing here
-//! but tests, as in `try_counters`, which tries counters, and `try_texts`, which tries the crates
-//! below these.
+//! Tries the calls of nodes over packets, of the layers above a counter, and those that play,
+//! write, check and explain runs. There is nothing here but tests, as in `try_counters`, which
+    tries
+//! counters, and `try_texts`, which tries the crates below these.
 #![tactic(auto)]
 
 #[cfg(test)]
@@ -12,7 +13,11 @@ mod firing_calls;
 #[cfg(test)]
 mod node_calls_calls;
 #[cfg(test)]
+mod node_rounds_calls;
+#[cfg(test)]
 mod node_stepper_calls;
+#[cfg(test)]
+mod players;
 #[cfg(test)]
 mod pulse_counter_calls;
 #[cfg(test)]
@@ -27,5 +32,11 @@ mod pulse_tables_calls;
 mod pulse_texts_calls;
 #[cfg(test)]
 mod replicated_log_calls;
+#[cfg(test)]
+mod round_runner_calls;
+#[cfg(test)]
+mod run_checker_calls;
+#[cfg(test)]
+mod run_explanations_calls;
 #[cfg(test)]
 mod slot_table_calls;

@@ -67,7 +67,7 @@ fn steps_are_those_of_another_computation(rt: HostRuntime) -> Result<(), Fail> {
             case = case.wrapping_add(1);
             digest = step_of_case(&rt, rt.alloc(), &plan, case, digest)?;
         }
-        assert_eq!(rt; digest, *wanted, "{nodes} nodes");
+        assert!(rt; digest == *wanted, "{nodes} nodes");
     }
     Ok(())
 }
@@ -234,6 +234,6 @@ fn zero_is_shown(rt: HostRuntime) -> Result<(), Fail> {
     let plan = plan_of(&rt, 4, 1, 10);
     let state = zero(&plan, rt.alloc())?;
     assert!(rt; state.depth() == plan.depth());
-    assert_eq!(rt; output(&plan, &state), 0);
+    assert!(rt; output(&plan, &state) == 0);
     Ok(())
 }

@@ -10,17 +10,6 @@ const MOST_NODES: u64 = 24;
 const MOST_NODES_OF_ALL: u64 = 256;
 
 impl Draws {
-    /// A plan of a version without levels.
-    fn empty_plan(&self, version: u64) -> Plan {
-        Plan {
-            version,
-            base: 0,
-            levels: Vec::new(self.alloc),
-            behind: 0,
-            values: 0,
-        }
-    }
-
     /// A level of so many blocks, without a modulus, that may stand above those of a plan.
     fn level(&mut self, plan: &Plan, blocks: u64, spares: u64) -> Level {
         let mut level = Level {
@@ -48,7 +37,7 @@ impl Draws {
 
     /// An accepted plan of a version, with few nodes.
     pub fn plan(&mut self, version: u64) -> Plan {
-        let mut plan = self.empty_plan(version);
+        let mut plan = Plan::without_levels(self.alloc, version, 0);
         for _ in 0..self.between(1, 3) {
             let blocks = self.between(3, 5);
             let spares = if version == 2 { self.below(4) } else { 0 };
@@ -66,7 +55,7 @@ impl Draws {
     /// An accepted plan of a version, of five levels of three blocks. What nodes are left of the
     /// most that may be are spares on some of the levels.
     pub fn high_plan(&mut self, version: u64) -> Plan {
-        let mut plan = self.empty_plan(version);
+        let mut plan = Plan::without_levels(self.alloc, version, 0);
         let mut above = 81u64;
         for _ in 0..5 {
             let blocks = plan.nodes().wrapping_mul(3);

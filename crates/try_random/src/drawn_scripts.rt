@@ -32,6 +32,18 @@ impl Draws {
         starts
     }
 
+    /// An era from a configuration on.
+    fn era(&mut self, plan: &Plan, first: u64, centre: &State) -> Era {
+        let faulty = self.faulty(plan);
+        let often = self.between(1, 3);
+        let starts = self.starts(plan, centre, often);
+        Era {
+            first,
+            faulty,
+            starts,
+        }
+    }
+
     /// Some eras within so many rounds.
     fn eras(&mut self, plan: &Plan, rounds: u64, centre: &State) -> Vec<Era> {
         let mut eras = Vec::new(self.alloc);
@@ -41,14 +53,7 @@ impl Draws {
             if first > rounds {
                 break;
             }
-            let faulty = self.faulty(plan);
-            let often = self.between(1, 3);
-            let starts = self.starts(plan, centre, often);
-            let era = Era {
-                first,
-                faulty,
-                starts,
-            };
+            let era = self.era(plan, first, centre);
             self.put(&mut eras, era);
         }
         eras

@@ -1,5 +1,6 @@
 //! Compares what the workbench answers with a plain and slow computation of what plans, scripts and
-//! their other parts mean, which shares no code with it. Inputs are drawn, the same each time.
+//! their other parts mean, which shares no code with it. Inputs are drawn, the same each time; then
+//! those are tried that are one small change away from given ones.
 #![tactic(auto)]
 
 mod cases;
@@ -10,6 +11,7 @@ mod drawn_scripts;
 mod draws;
 mod given_plans;
 mod kinds;
+mod near_misses;
 mod plain_check;
 mod plain_consensus;
 mod plain_find;
@@ -22,9 +24,11 @@ mod plain_table;
 mod trials;
 
 use crate::draws::Draws;
+use crate::near_misses::try_near_misses;
 use crate::trials::try_all;
 
 fn main(rt: HostRuntime) -> anyhow::Result<()> {
     let mut draws = Draws::new(rt.alloc());
-    try_all(&rt, &mut draws)
+    try_all(&rt, &mut draws)?;
+    try_near_misses(&rt)
 }

@@ -24,7 +24,7 @@ fn lines_in(text: &[u8]) -> u64 {
 }
 
 /// Where the line of a text begins that is after so many others.
-fn start_of(text: &[u8], lines: u64) -> usize {
+pub fn start_of(text: &[u8], lines: u64) -> usize {
     let mut left = lines;
     for (place, byte) in text.iter().enumerate() {
         if left == 0 {

@@ -4,6 +4,7 @@ use crate::cases::{Case, refusal_or_script};
 use crate::draws::Draws;
 use reference::input_texts::write_agreement;
 use reference::layers::Part;
+use reference::parts::are_below;
 use reference::plans::{Plan, remainder};
 use std::alloc::AllocError;
 
@@ -19,15 +20,6 @@ impl Drop for Agreement {
         let Agreement { values: _, inputs } = self;
         drop(inputs);
     }
-}
-
-/// Whether all inputs are below a number.
-fn are_below(inputs: &[u64], values: u64) -> bool {
-    let mut are_below = true;
-    for input in inputs {
-        are_below &= *input < values;
-    }
-    are_below
 }
 
 /// The first rule that fails, and on which line after that of `agree 1`.

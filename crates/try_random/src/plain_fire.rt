@@ -3,31 +3,25 @@
 
 use crate::cases::{Case, refusal_or_script};
 use crate::draws::Draws;
-use reference::input_texts::write_requests;
+use reference::input_texts::write_spans;
 use reference::layers::Part;
 use reference::plans::{Plan, remainder};
-use reference::spans::{Span, broken_request};
+use reference::spans::{Span, broken_span};
 use std::alloc::AllocError;
 
-/// The first rule that a request fails, and on which line after that of `fire 1`.
-fn broken_of_all(plan: &Plan, requests: &[Span]) -> Option<(u64, &'static str)> {
+/// The first rule that fails, and on which line after that of `fire 1`.
+fn broken(plan: &Plan, requests: &[Span]) -> Option<(u64, &'static str)> {
+    if remainder(plan.modulus(), plan.slot()) != 0 {
+        return Some((0, "slot"));
+    }
     let mut place = 1u64;
     for request in requests {
-        if let Some(rule) = broken_request(plan, request) {
+        if let Some(rule) = broken_span(plan.nodes(), request) {
             return Some((place, rule));
         }
         place = place.wrapping_add(1);
     }
     None
-}
-
-/// The first rule that fails, and on which line after that of `fire 1`.
-fn broken(plan: &Plan, requests: &[Span]) -> Option<(u64, &'static str)> {
-    if remainder(plan.modulus(), plan.slot()) != 0 {
-        Some((0, "slot"))
-    } else {
-        broken_of_all(plan, requests)
-    }
 }
 
 impl Draws {
@@ -63,7 +57,7 @@ impl Draws {
         let script = self.long_script(plan, version);
         let requests = self.requests(plan, script.rounds);
         let mut input = self.plan_text(plan);
-        self.note(write_requests(&mut input, &requests));
+        self.note(write_spans(&mut input, "fire", "request", &requests));
         self.played("fire", input, plan, &script, Part::Firing(&requests))
     }
 
@@ -77,7 +71,7 @@ impl Draws {
         };
         self.put(&mut requests, request);
         let mut input = self.plan_text(plan);
-        self.note(write_requests(&mut input, &requests));
+        self.note(write_spans(&mut input, "fire", "request", &requests));
         let lines = (requests.len() as u64).wrapping_add(2);
         let refusal = refusal_or_script(plan, "fire", broken(plan, &requests), lines);
         Case::refused(self.alloc, "fire", input.into_bytes(), refusal)

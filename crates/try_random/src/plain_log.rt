@@ -29,18 +29,6 @@ impl Drop for Commands {
     }
 }
 
-/// The first rule that the commands of a node fail, and on which line after that of `log 1`.
-fn broken_of_nodes(lines: &Commands) -> Option<(u64, &'static str)> {
-    let mut place = 3u64;
-    for own in &lines.commands {
-        if let Some(rule) = broken_commands(lines.values, own) {
-            return Some((place, rule));
-        }
-        place = place.wrapping_add(1);
-    }
-    None
-}
-
 /// The first rule that fails, and on which line after that of `log 1`.
 fn broken(plan: &Plan, lines: &Commands) -> Option<(u64, &'static str)> {
     if remainder(plan.modulus(), Numbers::of(plan).turn()) != 0 {
@@ -54,13 +42,15 @@ fn broken(plan: &Plan, lines: &Commands) -> Option<(u64, &'static str)> {
     } else if lines.keep < 1 {
         Some((2, "range"))
     } else {
-        broken_of_nodes(lines)
+        let mut place = 3u64;
+        for own in &lines.commands {
+            if let Some(rule) = broken_commands(lines.values, own) {
+                return Some((place, rule));
+            }
+            place = place.wrapping_add(1);
+        }
+        None
     }
-}
-
-/// Writes them.
-fn write_lines(text: &mut String, lines: &Commands) -> Result<(), AllocError> {
-    write_log(text, lines.values, lines.keep, &lines.commands)
 }
 
 impl Draws {
@@ -117,7 +107,7 @@ impl Draws {
         plan.set_layer(2, lines.values);
         let script = self.long_script(plan, version);
         let mut input = self.plan_text(plan);
-        self.note(write_lines(&mut input, &lines));
+        self.note(write_log(&mut input, lines.values, lines.keep, &lines.commands));
         self.played("log", input, plan, &script, Part::Log(&lines.commands))
     }
 
@@ -126,7 +116,7 @@ impl Draws {
         let mut lines = self.log(plan);
         self.spoil_log(&mut lines);
         let mut input = self.plan_text(plan);
-        self.note(write_lines(&mut input, &lines));
+        self.note(write_log(&mut input, lines.values, lines.keep, &lines.commands));
         let behind = plan.nodes().wrapping_add(4);
         let refusal = refusal_or_script(plan, "log", broken(plan, &lines), behind);
         Case::refused(self.alloc, "log", input.into_bytes(), refusal)

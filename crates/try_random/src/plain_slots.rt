@@ -2,7 +2,7 @@
 
 use crate::cases::{Case, refusal_of};
 use crate::draws::Draws;
-use reference::input_texts::{write_script, write_slots};
+use reference::input_texts::{write_script, write_spans};
 use reference::layers::Part;
 use reference::numbers::Numbers;
 use reference::plans::Plan;
@@ -59,7 +59,7 @@ impl Draws {
         let slots = self.slots(plan);
         let script = self.script(plan, version);
         let mut input = self.plan_text(plan);
-        self.note(write_slots(&mut input, &slots));
+        self.note(write_spans(&mut input, "slots", "slot", &slots));
         let Some((place, rule)) = broken(plan, &slots) else {
             return self.played("slots", input, plan, &script, Part::Slots(&slots));
         };

@@ -6,7 +6,7 @@ use crate::draws::Draws;
 use reference::plans::{Level, Plan};
 use reference::premises::{MOST, broken_base, broken_level};
 use reference::refusals::Refusal;
-use reference::tables::{Numbers, Whole, numbers_of, table_of, whole_of, write_table};
+use reference::tables::{numbers_of, table_of, whole_of, write_table};
 use std::alloc::AllocError;
 
 /// The first line of a plan that is refused.
@@ -28,29 +28,19 @@ fn refusal(plan: &Plan) -> Option<Refusal> {
     None
 }
 
-impl Draws {
-    /// Makes one of the numbers of a level wrong.
-    fn spoil(&mut self, numbers: &mut Numbers) {
-        match self.below(7) {
-            0 => numbers.index = numbers.index.wrapping_add(1),
-            1 => numbers.leaders = numbers.leaders.wrapping_add(1),
-            2 => numbers.nodes = numbers.nodes.wrapping_sub(1),
-            3 => numbers.beat = numbers.beat.wrapping_add(3),
-            4 => numbers.span = numbers.span.wrapping_add(1),
-            5 => numbers.bound = numbers.bound.wrapping_sub(1),
-            _ => numbers.bits = numbers.bits.wrapping_add(1),
-        }
-    }
+/// The places of the numbers in the line of a level that follow from the others.
+const FOLLOWING: [usize; 7] = [0, 2, 3, 5, 6, 8, 9];
 
-    /// Makes one of the numbers of a plan wrong.
-    fn spoil_whole(&mut self, whole: &mut Whole) {
-        match self.below(6) {
-            0 => whole.nodes = whole.nodes.wrapping_add(1),
-            1 => whole.faults = whole.faults.wrapping_add(1),
-            2 => whole.modulus = whole.modulus.wrapping_add(1),
-            3 => whole.bound = whole.bound.wrapping_add(1),
-            4 => whole.bits = whole.bits.wrapping_add(1),
-            _ => whole.bytes = whole.bytes.wrapping_add(1),
+/// The places of the numbers in the line of a whole plan, all of which follow from its levels.
+const WHOLE: [usize; 6] = [0, 1, 2, 3, 4, 5];
+
+impl Draws {
+    /// Makes a number at one of these places wrong.
+    fn spoil(&mut self, numbers: &mut [u64], places: &[usize]) {
+        let chosen = self.below(places.len() as u64) as usize;
+        let place = places.get(chosen).copied().unwrap_or(0);
+        if let Some(number) = numbers.get_mut(place) {
+            *number = number.wrapping_add(1);
         }
     }
 
@@ -126,11 +116,11 @@ impl Draws {
         let mut whole = whole_of(plan);
         let place = self.below((all.len() as u64).wrapping_add(1));
         match all.get_mut(place as usize) {
-            Some(numbers) => self.spoil(numbers),
-            None => self.spoil_whole(&mut whole),
+            Some(numbers) => self.spoil(numbers, &FOLLOWING),
+            None => self.spoil(&mut whole, &WHOLE),
         }
         let mut input = String::new(self.alloc);
-        self.note(write_table(&mut input, plan, &all, whole));
+        self.note(write_table(&mut input, plan, &all, &whole));
         let refusal = Refusal {
             part: "table",
             line: place.wrapping_add(3),

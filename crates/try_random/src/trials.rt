@@ -11,7 +11,6 @@ use crate::kinds::{Kind, Source};
 use crate::plain_check::judged_case;
 use reference::nodes::MOST_PACKETS;
 use reference::plans::Plan;
-use std::alloc::{AllocError, Global};
 
 /// How many changes are tried of each certificate.
 const CHANGES: u64 = 4;
@@ -46,18 +45,13 @@ fn report(rt: &HostRuntime, counts: &[(&str, u64)], what: &str) -> anyhow::Resul
     Ok(())
 }
 
-/// How a change of a certificate is judged.
-fn changed_case(draws: &mut Draws, case: &Case) -> Result<Case, AllocError> {
-    let changed = draws.changed(&case.input);
-    judged_case(draws.alloc, changed)
-}
-
 /// Whether a case is answered as it should be, and, if it is a certificate, changes of it.
 fn agrees(rt: &HostRuntime, draws: &mut Draws, case: &Case) -> anyhow::Result<bool> {
     let mut same = is_answered(rt, case)?;
     let changes = if case.word == "check" { CHANGES } else { 0 };
     for _ in 0..changes {
-        let changed = changed_case(draws, case)?;
+        let changed = draws.changed(&case.input);
+        let changed = judged_case(draws.alloc, changed)?;
         same &= is_answered(rt, &changed)?;
     }
     Ok(same)
@@ -100,11 +94,6 @@ fn agreeing(
     Ok(same)
 }
 
-/// How many nodes the plan of a row has.
-fn nodes_of(alloc: Global, row: Row) -> Result<u64, AllocError> {
-    Ok(plan_of(alloc, row)?.nodes())
-}
-
 /// Tries so many runs on a given plan, with scripts of a version.
 fn try_given_plan(
     rt: &HostRuntime,
@@ -113,7 +102,7 @@ fn try_given_plan(
     version: u64,
     scripts: u64,
 ) -> anyhow::Result<()> {
-    let nodes = nodes_of(draws.alloc, row)?;
+    let nodes = plan_of(draws.alloc, row)?.nodes();
     let levels = row.2.len() as u64;
     let same = agreeing(
         rt,
@@ -340,7 +329,7 @@ fn try_explanation(
     version: u64,
     most: u64,
 ) -> anyhow::Result<()> {
-    let nodes = nodes_of(draws.alloc, row)?;
+    let nodes = plan_of(draws.alloc, row)?.nodes();
     let (kind, source) = (Kind::Explain(most), Source::Given(row));
     let same = agreeing(rt, draws, kind, source, 1, version, EXPLANATIONS)?;
     let counts = [

@@ -1,7 +1,7 @@
 //! Slots that are drawn, and the parts of layers.
 
 use crate::draws::Draws;
-use reference::input_texts::{write_agreement, write_log, write_requests};
+use reference::input_texts::{write_agreement, write_log, write_spans};
 use reference::pulse_groups::Group;
 use reference::spans::Span;
 use std::alloc::AllocError;
@@ -122,7 +122,7 @@ impl Draws {
             }
             "fire" => {
                 plan.set_layer(1, 2);
-                write_requests(input, &self.requests(plan, rounds)?)
+                write_spans(input, "fire", "request", &self.requests(plan, rounds)?)
             }
             "log" => {
                 let values = self.values();

@@ -51,6 +51,19 @@ impl Drop for Hearing {
     }
 }
 
+/// The state of a node that begins in any, and the node, of the plan of a text.
+fn begun(
+    draws: &mut Draws,
+    plan: &Group,
+    text: &str,
+    node: u64,
+) -> Result<(State, Node), AllocError> {
+    let start = draws.bytes(plan.bytes(node))?;
+    let state = read(plan, node, &start);
+    let own = bytes_of(draws.alloc, plan, node, &state)?;
+    Ok((state, Node::begin(draws.alloc, text, node, &start, &own)?))
+}
+
 impl<'a> Run<'a> {
     /// A run from any states, in which drawn nodes lie.
     pub fn begin(draws: &mut Draws, plan: &'a Group, lies: Lies) -> Result<Run<'a>, AllocError> {
@@ -59,10 +72,8 @@ impl<'a> Run<'a> {
         let mut states = Vec::new(draws.alloc);
         let mut nodes = Vec::new(draws.alloc);
         for node in 0..plan.nodes {
-            let start = draws.bytes(plan.bytes(node))?;
-            let state = read(plan, node, &start);
-            let own = bytes_of(draws.alloc, plan, node, &state)?;
-            nodes.push(Node::begin(draws.alloc, &text, node, &start, &own)?)?;
+            let (state, begun) = begun(draws, plan, &text, node)?;
+            nodes.push(begun)?;
             states.push(state)?;
         }
         Ok(Run {

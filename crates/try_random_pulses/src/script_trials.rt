@@ -6,7 +6,7 @@ use crate::draws::Draws;
 use crate::kinds::{KINDS, Kind};
 use edge_io::MemSink;
 use pulse_runs::{PlayError, play};
-use reference::input_texts::{write_script, write_slots};
+use reference::input_texts::{write_script, write_spans};
 use reference::lines::Lines;
 use reference::numbers::Numbers;
 use reference::parts::play_pulses;
@@ -86,6 +86,29 @@ impl Counts {
     }
 }
 
+/// Writes a drawn script of so many eras after the first, of so many rounds each, and slots before
+/// it if its kind has them.
+fn write_drawn(
+    draws: &mut Draws,
+    kind: Kind,
+    plan: &Group,
+    eras: u64,
+    length: u64,
+    input: &mut String,
+) -> Result<(), AllocError> {
+    let states = draws.near_states(plan)?;
+    let near = Near {
+        plan,
+        states: &states,
+    };
+    let script = draws.script(near, eras, length)?;
+    if kind.word == "slots" {
+        let slots = draws.slots(plan)?;
+        write_spans(input, "slots", "slot", &slots)?;
+    }
+    write_script(input, &script)
+}
+
 /// An input of a plan and a drawn script of so many eras after the first, of so many rounds each,
 /// with what its kind has between them.
 fn drawn_input(
@@ -99,17 +122,7 @@ fn drawn_input(
     let mut input = text_of(draws.alloc, &plan)?;
     let rounds = eras.wrapping_add(1).wrapping_mul(length);
     draws.write_layer(kind.word, &mut plan, rounds, &mut input)?;
-    let states = draws.near_states(&plan)?;
-    let near = Near {
-        plan: &plan,
-        states: &states,
-    };
-    let script = draws.script(near, eras, length)?;
-    if kind.word == "slots" {
-        let slots = draws.slots(&plan)?;
-        write_slots(&mut input, &slots)?;
-    }
-    write_script(&mut input, &script)?;
+    write_drawn(draws, kind, &plan, eras, length, &mut input)?;
     Ok(input)
 }
 

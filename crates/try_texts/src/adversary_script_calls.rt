@@ -76,7 +76,7 @@ fn first_words(alloc: Global) -> Result<Vec<u8>, Fail> {
 #[test]
 fn words_are_those_of_the_published_stream(rt: HostRuntime) -> Result<(), Fail> {
     let published = b"3e00ef2f895f40d67f5bb8e81f09a5a12c840ec3ce9a7f3b181be188ef711a1e";
-    assert_eq!(rt; first_words(rt.alloc())?.as_slice(), published.as_slice());
+    assert!(rt; first_words(rt.alloc())?.as_slice() == published.as_slice());
     Ok(())
 }
 

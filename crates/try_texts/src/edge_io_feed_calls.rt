@@ -169,7 +169,7 @@ fn faults_have_texts(rt: HostRuntime) -> Result<(), Fail> {
     let (memory, failed, read, write) = (NoMemory, Failed, ReadFault, WriteFault);
     let all = format!(in rt.alloc(); "{memory}, {failed}, {read}, {write}")?;
     let want = "out of memory, a read or a write failed, a read failed, a write failed";
-    assert_eq!(rt; all.as_str(), want);
+    assert!(rt; all.as_str() == want);
     Ok(())
 }
 

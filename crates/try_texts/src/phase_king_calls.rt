@@ -40,21 +40,21 @@ fn both(kind: u64, own: Reg, same: usize, least: Option<u64>, king: Option<u64>)
 fn worked_steps(rt: HostRuntime) {
     // heard 3, 3, 9, 9: too few have 3
     let few = both(0, plain(3), 2, Some(3), Some(3));
-    assert_eq!(rt; few, (INFINITE, INFINITE));
+    assert!(rt; few == (INFINITE, INFINITE));
 
     // heard 4, 4, infinite, 7: more than one has 4, but not three
     let more = both(1, plain(4), 2, Some(4), Some(4));
-    assert_eq!(rt; more, (plain(5), plain(4)));
+    assert!(rt; more == (plain(5), plain(4)));
 
     // heard 1, 2, 3, 4: none has a value twice
     let single = both(1, plain(1), 1, None, Some(1));
-    assert_eq!(rt; single, (INFINITE, INFINITE));
+    assert!(rt; single == (INFINITE, INFINITE));
 
     // the king's infinity counts as 0
     let of_king = both(2, INFINITE, 4, None, None);
-    assert_eq!(rt; of_king, (marked(1), marked(0)));
+    assert!(rt; of_king == (marked(1), marked(0)));
 
     // a marked value stays, and goes round
     let own = both(2, marked(9), 4, Some(9), Some(5));
-    assert_eq!(rt; own, (marked(0), marked(9)));
+    assert!(rt; own == (marked(0), marked(9)));
 }

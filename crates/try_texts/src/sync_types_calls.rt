@@ -28,7 +28,7 @@ fn ids_that_were_pushed_are_faulty(rt: HostRuntime) -> Result<(), Fail> {
 #[test]
 fn zero_states_stand_one_for_each_node(rt: HostRuntime) -> Result<(), Fail> {
     let states = NodeState::zeros(rt.alloc(), 3, 2)?;
-    assert_eq!(rt; states.len(), 3);
+    assert!(rt; states.len() == 3);
     assert!(rt;
         states
             .iter()
@@ -40,6 +40,6 @@ fn zero_states_stand_one_for_each_node(rt: HostRuntime) -> Result<(), Fail> {
 #[test]
 fn want_of_memory_has_a_text(rt: HostRuntime) -> Result<(), Fail> {
     let text = format!(in rt.alloc(); "{NoMemory}")?;
-    assert_eq!(rt; text.as_str(), "out of memory");
+    assert!(rt; text.as_str() == "out of memory");
     Ok(())
 }
