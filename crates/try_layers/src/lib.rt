@@ -1,7 +1,6 @@
 //! Tries the calls of nodes over packets, of the layers above a counter, and those that play,
 //! write, check and explain runs. There is nothing here but tests, as in `try_counters`, which
-    tries
-//! counters, and `try_texts`, which tries the crates below these.
+//! tries counters, and `try_texts`, which tries the crates below these.
 #![tactic(auto)]
 
 #[cfg(test)]
