@@ -13,7 +13,7 @@ use Rattle.sync_types.specs.States.{State, zero_state}
 use Rattle.sync_types.specs.FaultSets.{is_in}
 use Rattle.construction.specs.Plans.{Plan, plan_nodes, plan_depth}
 use Rattle.construction.specs.Steps.{state_of}
-use Rattle.machine_runner.proofs.Places.{within}
+use Rattle.counter_core.proofs.StateLists.{within}
 use Rattle.round_runner.specs.Locks.{correct_nodes}
 use Rattle.round_runner.proofs.Own.{same_place}
 use Rattle.run_checker.specs.Grammar.{pairs_of}

@@ -1,5 +1,5 @@
 use Rattle.std.proofs.Common.{arith}
-use Rattle.attack.proofs.Ranges.{range_more}
+use Rattle.texts.proofs.Ranges.{range_more}
 use Rattle.attack.proofs.faulty_ids.all_ids.Goals as goal
 
 pub loop-id-preserved : goal.loop-id-preserved

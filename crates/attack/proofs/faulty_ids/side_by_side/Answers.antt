@@ -1,5 +1,5 @@
 use Rattle.std.proofs.Common.{ℕ, ◌+◌, refl, arith}
-use Rattle.attack.proofs.Ranges.{range_more}
+use Rattle.texts.proofs.Ranges.{range_more}
 use Rattle.attack.proofs.faulty_ids.side_by_side.Goals as goal
 
 pub loop-i-preserved : goal.loop-i-preserved

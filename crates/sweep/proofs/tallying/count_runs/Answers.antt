@@ -9,7 +9,8 @@ use Rattle.sweep.specs.Sweeps.{Locks, Swept}
 use Rattle.sweep.specs.Tallies.{EraRuns, AreTallied, HasRoom}
 use Rattle.sweep.specs.Progress.{SaidSoFar}
 use Rattle.sweep.proofs.Said.{said_begin, says_nothing}
-use Rattle.sweep.proofs.Tallied.{range_more, room_unkeyed}
+use Rattle.texts.proofs.Ranges.{range_more}
+use Rattle.sweep.proofs.Tallied.{room_unkeyed}
 use Rattle.sweep.proofs.tallying.count_runs.Goals as goal
 
 pub loop-seed-init : goal.loop-seed-init
