@@ -1,5 +1,5 @@
 #!/usr/bin/env python3
-"""Runs the built programs on one example of each exit code.
+"""Runs the built programs on an example of each exit code, and on what no other example shows.
 
     python3 bench/tools/statuses.py [PROGRAM ..]
 
