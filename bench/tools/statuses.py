@@ -115,6 +115,17 @@ def record_checked(program):
     return ended(program, ["check"], input=record if len(record) > LIMIT else b"")
 
 
+def rows_recorded(program):
+    """The rows of the record of a script whose first era never locks."""
+    record = ended(program, ["record"], input=example("records/too_many_liars_at_first"))[1]
+    return rows_of(record)
+
+
+def rows_of(text):
+    """The lines of rows in a text."""
+    return [line for line in text.split(b"\n") if line.startswith(b"row ")]
+
+
 FOUR_PULSES = b"pulses 1\ngroup 4 1 10\nend\n"
 NODE_OF_FOUR = FOUR_PULSES + b"node 1\nid 1\nstate 000000\nend\n"
 ZERO_CELL, CELL_BEHIND_ZEROS = b"\x00\x03\x00\x00\x00", b"\x00\x03\x22\x20\xd0"
@@ -440,6 +451,8 @@ def look_at(name, program, looks):
     if name == "counterlab":
         verdict = (0, b"true rows 3365 locked 314\n", b"")
         looks.look(f"{name} check, of a record", verdict, record_checked, program)
+        rows = rows_of((EXAMPLES / "records" / "too_many_liars_at_first.run.out").read_bytes())
+        looks.look(f"{name} record, its rows", rows, rows_recorded, program)
     else:  # counterlab has no such word
         said = (0, f"{name} {VERSION}\n".encode(), b"")
         looks.look(f"{name} --version", said, ended, program, ["--version"], input=b"")
