@@ -11,8 +11,9 @@ use crate::reading::read_any_plan;
 use crate::reasons::AttackError;
 use crate::requests::{Numbers, named_kinds};
 use edge_io::{Sink, Source, WriteFault, put_all, read_all};
-use program_words::{LONGEST_INPUT, ProgramError};
+use program_words::ProgramError;
 use std::alloc::Global;
+use texts::LONGEST_INPUT;
 
 /// Writes the text of a plan, and a text after it.
 fn write_both<K: Sink>(sink: &mut K, plan: &AnyPlan, text: &[u8]) -> Result<(), WriteFault>

@@ -69,15 +69,6 @@ more_nodes n f plan tolerates =
     let faults = tolerates.faults in
     omega (arith, quorum, faults)
 
--- too few nodes tolerate no faults
-pub none_suits : (f c most : ℕ) → most ≤ 3 * f → IsFrontOfBoth f c most None
-none_suits f c most few = record {
-  suit = All-nil (Suits f c most);
-  traded = λ i j d lt within. absurd (omega (arith, within));
-  best = λ other tolerates.
-      absurd (omega (arith, few, more_nodes most f other tolerates, tolerates.nodes));
-}
-
 -- one plan is a front, if none is better
 one_front : (f c most : ℕ) (plan : AnyPlan) → Suits f c most plan
     → ((other : AnyPlan) → Tolerates most f other → IsNoWorse other plan)

@@ -4,5 +4,4 @@ pub mod Majority
 pub mod Least
 pub mod Unfinished
 pub mod Parted
-pub mod Closed
 pub mod Heard

@@ -50,17 +50,6 @@ no_bytes limit before s = record {
 
 module _ (limit before mid after : ℕ) (s t u : Option (List ℕ)) (bytes : List ℕ) (count : ℕ)
     (h : LineSoFar limit before mid s t bytes count) where
-  pub one_byte_more : (b : ℕ) → eqb b 10 ≡ false → Consumes t u (b ∷ []) → after ≡ mid + 1
-      → mid < limit
-      → LineSoFar limit before after s u (bytes ++ b ∷ []) (count + 1)
-  one_byte_more b other q e lt = record {
-    read = Consumes-trans s t u bytes (b ∷ []) h.read q;
-    size = omega (arith, length_push bytes b, h.size);
-    one = list_all-append (λ c. not (eqb c 10)) bytes (b ∷ []) ∙ rw (h.one, other) refl;
-    counts = omega (arith, e, h.counts);
-    within = omega (arith, lt, h.counts, h.within);
-  }
-
   -- a fault after these bytes
   pub fault_behind : (e : LineFault) → TakesLineByte limit mid after t u (Err e)
       → LineIs limit before after s u bytes (Err e)

@@ -2,7 +2,7 @@
 use Rattle.std.proofs.Common.{◌≡◌, ℕ, ◌+◌, ◌-◌, ◌≤◌, List, [], ◌++◌, length, take, drop, sym, ap}
 use Rattle.std.proofs.Common.{◌∙◌, append_assoc, arith}
 use Rattle.std.proofs.lemmas.List.{drop-take, drop-drop, length-take-le, drop-append-le}
-use Rattle.std.proofs.lemmas.List.{take-append-drop}
+use Rattle.std.proofs.lemmas.List.{take-append-drop, take-take}
 use Rattle.std.proofs.Math.Seq.{take-append-add, take-append_seam}
 use Rattle.std.specs.Io.KnownBytes.{Appends}
 use Rattle.texts.specs.Growth.{SinkState, gathering, Follows, Wrote}
@@ -13,6 +13,13 @@ pub part_is : (buffer : List ℕ) (at end : ℕ) → at ≤ end
     → take (end - at) (drop at buffer) ≡ drop at (take end buffer)
 part_is buffer at end le = let all : at + (end - at) ≡ end = omega arith in
     sym (drop-take at (end - at) buffer) ∙ ap (λ (n : ℕ). drop at (take n buffer)) all
+
+-- the first bytes, and those from there up to a place
+pub part_taken : (at end : ℕ) (bytes : List ℕ) → at ≤ end
+    → take at bytes ++ take (end - at) (drop at bytes) ≡ take end bytes
+part_taken at end bytes le = ap (λ (l : List ℕ). take at bytes ++ l) (part_is bytes at end le)
+    ∙ ap (λ (l : List ℕ). l ++ drop at (take end bytes)) (sym (take-take at end bytes le))
+    ∙ take-append-drop at (take end bytes)
 
 -- some more bytes were passed on
 pub held_passed : (name at end n : ℕ) (buffer : List ℕ) (old : SinkState) (s t : SinkState)
@@ -52,19 +59,6 @@ held_all name at end buffer after bytes rest s le within is =
     ap (λ (l : List ℕ). drop at (take (end + length bytes) l)) is
     ∙ held_placed at end buffer bytes rest le within in
     rw held (held_more name (drop at (take end buffer)) bytes s)
-
--- a prefix of some bytes is held back
-pub held_grown : (name at end n : ℕ) (buffer after bytes rest : List ℕ) (s : SinkState) → at ≤ end
-    → end ≤ length buffer → n ≤ length bytes → after ≡ take end buffer ++ (take n bytes ++ rest)
-    → Wrote (take n bytes) (gathering name (drop at (take end buffer)) s)
-    (gathering name (drop at (take (end + n) after)) s)
-held_grown name at end n buffer after bytes rest s le within most is =
-    let size : length (take n bytes) ≡ n = length-take-le n bytes most in
-    let held : drop at (take (end + n) after) ≡ drop at (take end buffer) ++ take n bytes =
-    ap (λ (l : List ℕ). drop at (take (end + n) l)) is
-    ∙ ap (λ (k : ℕ). drop at (take (end + k) (take end buffer ++ (take n bytes ++ rest))))
-    (sym size) ∙ held_placed at end buffer (take n bytes) rest le within in
-    rw held (held_more name (drop at (take end buffer)) (take n bytes) s)
 
 -- bytes are held up to a place
 pub held_to : (name at end to : ℕ) (buffer after bytes : List ℕ) (s : SinkState) → at ≤ end

@@ -9,9 +9,6 @@ pub record SoMany (old now : Option (List ℕ)) (count : ℕ) : Type 0 where
   pub read : Consumes old now bytes
   pub size : length bytes ≡ count
 
-pub none_yet : (s : Option (List ℕ)) → SoMany s s 0
-none_yet s = record { bytes = []; read = Consumes-nil s; size = refl }
-
 pub one_more : (s t u : Option (List ℕ)) (count b : ℕ) → SoMany s t count → Consumes t u (b ∷ [])
     → SoMany s u (count + 1)
 one_more s t u count b h q =
@@ -20,8 +17,3 @@ one_more s t u count b h q =
       read = Consumes-trans s t u h.bytes (b ∷ []) h.read q;
       size = omega (arith, length_push h.bytes b, h.size);
     }
-
-pub and_kept : (s t u : Option (List ℕ)) (count : ℕ) → SoMany s t count → Keeps t u
-    → SoMany s u count
-and_kept s t u count h q =
-    record { bytes = h.bytes; read = Consumes-kept s t u h.bytes h.read q; size = h.size }

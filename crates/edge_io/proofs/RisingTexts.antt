@@ -176,13 +176,6 @@ module _ (bytes : List ℕ) (label end n : ℕ) (t : IsText bytes label end n) (
       zero_behind _ label (end - 1) end (n / 10 + 1) (n + 1) risen (omega (arith, two_digits))
       (omega (arith, two_digits)) t.room (omega arith) (omega (arith, last)) (omega arith)
 
-  -- and the label stays
-  pub label_kept : (x : ℕ) → take label (set (set bytes (end - 1 - 1) x) (end - 1) 48)
-      ≡ take label bytes
-  label_kept x =
-      take-set-le label (set bytes (end - 1 - 1) x) (end - 1) 48 (omega (arith, two_digits))
-      ∙ take-set-le label bytes (end - 1 - 1) x (omega (arith, two_digits))
-
 -- how long the text is
 pub text_length : (bytes : List ℕ) (label end n : ℕ) → IsText bytes label end n
     → end ≡ length (take label bytes ++ decimal n)

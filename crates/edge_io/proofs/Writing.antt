@@ -48,6 +48,17 @@ writes_then {a = a} {b = b} {x = x} {y = y} {z = z} p q = record {
 pub writes_none : {K : Type 0} {told : K → SinkState} {x : Writer K} → Writes told [] x x
 writes_none {x = x} = record { so = proceeds_none x.failed _ }
 
+-- what is held back is written, if no write has failed
+pub writes_held : {K : Type 0} {told : K → SinkState} {a : List ℕ} {x y : Writer K}
+    → x.failed ≡ false → y.failed ≡ x.failed → Wrote a (writer_told told x) (writer_told told y)
+    → Writes told a x y
+writes_held {told = told} {a = a} {x = x} {y = y} unfailed still wrote = record {
+  so = subst (λ (b : Bool). Proceeds b y.failed a (writer_told told x) (writer_told told y))
+      (sym unfailed)
+      (subst (λ (b : Bool). Proceeds false b a (writer_told told x) (writer_told told y))
+      (sym (still ∙ unfailed)) wrote);
+}
+
 -- the last of a list of texts
 pub writes_last : {K : Type 0} {told : K → SinkState} {a : List ℕ} {x y : Writer K}
     → Writes told a x y → Writes told (a ++ []) x y
@@ -87,15 +98,6 @@ writes_next f first i j before one at =
     ∙ ap (λ l. flat_map f (range_with_len first i) ++ l) (append-nil (f j)) in
     writes_is (sym parts) (writes_then before one)
 
--- the same, if the numbers run up to one from the first one on
-pub writes_up : {K : Type 0} {told : K → SinkState} (f : ℕ → List ℕ) (first v : ℕ)
-    {x y z : Writer K} → first ≤ v → Writes told (flat_map f (range_with_len first (v - first))) x y
-    → Writes told (f v) y z → Writes told (flat_map f (range_with_len first (v + 1 - first))) x z
-writes_up f first v le before one =
-    let more : (v - first) + 1 ≡ v + 1 - first = omega arith in
-    writes_is (ap (λ (k : ℕ). flat_map f (range_with_len first k)) more)
-    (writes_next f first (v - first) v before one (omega arith))
-
 range_both : (a i n : ℕ) → range_with_len a (i + n) ≡ range_with_len a i ++ range_with_len (a + i) n
 range_both a zero n =
     let all : 0 + n ≡ n = omega arith in
@@ -119,15 +121,6 @@ writes_stopped f first i all before failed le =
     sym (ap (λ (k : ℕ). flat_map f (range_with_len first k)) (sym size)
     ∙ ap (flat_map f) (range_both first i (all - i))
     ∙ flat_map-append f (range_with_len first i) (range_with_len (first + i) (all - i))) in
-    writes_is parts (writes_more _ failed before)
-
--- and those of a list
-pub writes_stopped_at : {K X : Type 0} {told : K → SinkState} (f : X → List ℕ) (xs : List X) (i : ℕ)
-    {x y : Writer K} → Writes told (flat_map f (take i xs)) x y → y.failed ≡ true
-    → Writes told (flat_map f xs) x y
-writes_stopped_at f xs i before failed =
-    let parts : flat_map f (take i xs) ++ flat_map f (drop i xs) ≡ flat_map f xs =
-    sym (flat_map-append f (take i xs) (drop i xs)) ∙ ap (flat_map f) (take-append-drop i xs) in
     writes_is parts (writes_more _ failed before)
 
 ends_written : {T E : Type 0} (r : Result T E) (failed : Bool) (text : List ℕ) (s t : SinkState)
@@ -159,14 +152,3 @@ writes_all {told = told} {r = r} {lent = lent} {start = start} {text = text} {x 
 
 -- what the proof of a function that writes a text mostly takes
 pub ruleset writing = (writes_then, writes_none)
-
--- and one with a loop over numbers or the places of a list
-pub ruleset writing_each = (
-  writes_then,
-  writes_none,
-  writes_next,
-  writes_up,
-  writes_at,
-  writes_stopped,
-  writes_stopped_at,
-)

@@ -58,6 +58,6 @@ pub use shapes::{all_numbers, all_numbers_after, numbers_after};
 pub use std_sink::StdSink;
 pub use std_source::StdSource;
 pub use taking::{PartError, Refused, TakeError};
-pub use traits::{Failed, Sink, Source, TextSink};
+pub use traits::{Failed, Sink, Source};
 pub use whole::no_fault_is_counted;
 pub use writer::Writer;

@@ -1,14 +1,11 @@
-ghost use Rattle.std.specs.Prelude.{◌<◌, ◌≤◌, [], ◌∷◌, ◌++◌, List, ℕ, Bool, length, decimal, IfOk};
-ghost use Rattle.std.specs.Prelude.{OnErr};
+ghost use Rattle.std.specs.Prelude.{◌<◌, ◌≤◌, List, ℕ, Bool, length, IfOk, OnErr};
 ghost use Rattle.std.specs.declared.option.Option.{Option};
 ghost use Rattle.std.specs.Io.{ReadsAtMost};
 ghost use Rattle.std.specs.Io.KnownBytes.{ReadConsumes, WriteAppends};
 ghost use Rattle.texts.specs.Causes.{HasCause};
-ghost use Rattle.texts.specs.Growth.{SinkState, Follows, UsesUp, Puts, IsMissed, arrived};
+ghost use Rattle.texts.specs.Growth.{SinkState, Follows, UsesUp, IsMissed, arrived};
 ghost use Rattle.edge_io.specs.Reading.{MeetsEnd};
-ghost use Rattle.edge_io.specs.Rising.{labelled_text};
 
-use crate::{RisingText, WriteFault};
 use thiserror::Error;
 
 /// A read or a write that failed. The source or the sink has counted it.
@@ -60,43 +57,4 @@ pub trait Sink {
         ensures uses { UsesUp (told self.old) (told self.new) result bytes.now }
         ensures missed { OnErr result (IsMissed (told self.old).taken (arrived (told self.new))
             bytes.now) };
-}
-
-/// A sink that takes whole texts and numbers, piece by piece.
-pub trait TextSink: Sink {
-    /// Takes all of the bytes.
-    ///
-    /// `WriteFault` comes only if one fault was counted; a prefix of them was then taken, and not
-    /// all of them came through.
-    fn text(&mut self, bytes: &[u8]) -> Result<(), WriteFault>
-        ensures { Puts result bytes.now (Self.Sink.told self.old) (Self.Sink.told self.new) };
-
-    /// Takes the decimal digits of a number.
-    ///
-    /// `WriteFault` comes only if one fault was counted; a prefix of them was then taken, and not
-    /// all of them came through.
-    fn number(&mut self, value: u64) -> Result<(), WriteFault>
-        ensures { Puts result (decimal value) (Self.Sink.told self.old) (Self.Sink.told self.new) };
-
-    /// Takes the bytes of a label, and after them the decimal digits of a number.
-    ///
-    /// `WriteFault` comes only if one fault was counted; a prefix of them was then taken, and not
-    /// all of them came through.
-    fn labelled(&mut self, label: &[u8], value: u64) -> Result<(), WriteFault>
-        ensures { Puts result (label.now ++ decimal value) (Self.Sink.told self.old)
-            (Self.Sink.told self.new) };
-
-    /// Takes one byte.
-    ///
-    /// `WriteFault` comes only if one fault was counted, and then it did not come through.
-    fn byte(&mut self, byte: u8) -> Result<(), WriteFault>
-        ensures { Puts result (byte ∷ []) (Self.Sink.told self.old) (Self.Sink.told self.new) };
-
-    /// Takes a number that rises, with its label.
-    ///
-    /// `WriteFault` comes only if one fault was counted; a prefix of the text was then taken, and
-    /// not all of it came through.
-    fn rising(&mut self, number: &RisingText) -> Result<(), WriteFault>
-        ensures { Puts result (labelled_text number.now) (Self.Sink.told self.old)
-            (Self.Sink.told self.new) };
 }

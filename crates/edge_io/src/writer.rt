@@ -2,7 +2,7 @@ ghost use Rattle.std.specs.Prelude.{◌≡◌, ◌≤◌, length};
 
 use crate::places::place;
 use crate::rising::MOST_RISING;
-use crate::{Failed, Piece, RisingText, Sink, TextSink, WriteFault, put_all, put_pieces};
+use crate::{Failed, Piece, RisingText, Sink, WriteFault};
 use itoa::Buffer;
 
 /// How many bytes are held back at most.
@@ -31,11 +31,11 @@ pub struct Writer<'a, K> {
 }
 
 impl<'a, K: Sink> Writer<'a, K> {
-    ghost use Rattle.std.specs.Prelude.{◌≡◌, ◌+◌, [], ◌∷◌, ◌++◌, ◌<◌, ◌≤◌, List, ℕ, length, take};
-    ghost use Rattle.std.specs.Prelude.{decimal, OnOk};
-    ghost use Rattle.texts.specs.Growth.{SinkState, Wrote, Puts, gathering};
+    ghost use Rattle.std.specs.Prelude.{◌≡◌, ◌+◌, [], ◌∷◌, ◌++◌, ◌≤◌, length, decimal, OnOk};
+    ghost use Rattle.std.specs.Prelude.{true, not};
+    ghost use Rattle.texts.specs.Growth.{Wrote, Puts};
     ghost use Rattle.edge_io.specs.Gathering.{gathered_told, held};
-    ghost use Rattle.edge_io.specs.Pieces.{pieces_text};
+    ghost use Rattle.edge_io.specs.Pieces.{piece_text, pieces_text};
     ghost use Rattle.edge_io.specs.Rising.{labelled_text};
     ghost use Rattle.edge_io.specs.Writing.{Writes, IsFresh, Finishes};
 
@@ -63,17 +63,20 @@ impl<'a, K: Sink> Writer<'a, K> {
     pub fn text(&mut self, bytes: &[u8])
         ensures { Writes K.told bytes.now self.old self.new }
     {
-        if !self.failed {
-            self.failed = TextSink::text(self, bytes).is_err();
+        let mut at = 0;
+        while bytes.len() - at > ROOM {
+            self.short_text(&bytes[at..at + ROOM]);
+            at += ROOM;
         }
+        self.short_text(&bytes[at..]);
     }
 
     /// Writes one byte.
     pub fn byte(&mut self, byte: u8)
         ensures { Writes K.told (byte ∷ []) self.old self.new }
     {
-        if !self.failed {
-            self.failed = TextSink::byte(self, byte).is_err();
+        if self.has_room(1) {
+            self.hold_byte(byte);
         }
     }
 
@@ -81,8 +84,8 @@ impl<'a, K: Sink> Writer<'a, K> {
     pub fn number(&mut self, value: u64)
         ensures { Writes K.told (decimal value) self.old self.new }
     {
-        if !self.failed {
-            self.failed = TextSink::number(self, value).is_err();
+        if self.has_room(MOST_DIGITS) {
+            self.hold_number(value);
         }
     }
 
@@ -90,8 +93,12 @@ impl<'a, K: Sink> Writer<'a, K> {
     pub fn labelled(&mut self, label: &[u8], value: u64)
         ensures { Writes K.told (label.now ++ decimal value) self.old self.new }
     {
-        if !self.failed {
-            self.failed = TextSink::labelled(self, label, value).is_err();
+        if label.len() > ROOM - MOST_DIGITS {
+            self.text(label);
+            self.number(value);
+        } else if self.has_room(label.len() + MOST_DIGITS) {
+            self.hold_all(label);
+            self.hold_number(value);
         }
     }
 
@@ -99,8 +106,8 @@ impl<'a, K: Sink> Writer<'a, K> {
     pub fn rising(&mut self, number: &RisingText)
         ensures { Writes K.told (labelled_text number.now) self.old self.new }
     {
-        if !self.failed {
-            self.failed = TextSink::rising(self, number).is_err();
+        if self.has_room(MOST_RISING) {
+            self.hold_rising(number);
         }
     }
 
@@ -108,8 +115,17 @@ impl<'a, K: Sink> Writer<'a, K> {
     pub fn pieces(&mut self, pieces: &[Piece<'_>])
         ensures { Writes K.told (pieces_text pieces.now) self.old self.new }
     {
-        if !self.failed {
-            self.failed = put_pieces(self, pieces).is_err();
+        for piece in pieces {
+            self.piece(piece);
+        }
+    }
+
+    fn piece(&mut self, piece: &Piece<'_>)
+        ensures { Writes K.told (piece_text piece.now) self.old self.new }
+    {
+        match piece {
+            Piece::Text(text) => self.text(text),
+            Piece::Number(value) => self.number(*value),
         }
     }
 
@@ -125,19 +141,13 @@ impl<'a, K: Sink> Writer<'a, K> {
         if self.failed { Err(WriteFault) } else { Ok(()) }
     }
 
-    /// The same, for calls that take it as a sink and answer each fault.
-    pub fn gathering(sink: &'a mut K) -> Writer<'a, K>
-        ensures same_reference { result.sink.ghost_name ≡ sink.entry.ghost_name }
-        ensures told { gathered_told K.told result
-            ≡ gathering sink.entry.ghost_name [] (K.told sink.old) }
-        ensures behind { result.sink.now ≡ sink.old }
+    /// Writes bytes for which the buffer has room.
+    fn short_text(&mut self, bytes: &[u8])
+        requires few { length bytes.now ≤ 8192 }
+        ensures { Writes K.told bytes.now self.old self.new }
     {
-        Writer {
-            sink,
-            buffer: [0; ROOM],
-            at: 0,
-            end: 0,
-            failed: false,
+        if self.has_room(bytes.len()) {
+            self.hold_all(bytes);
         }
     }
 
@@ -145,7 +155,8 @@ impl<'a, K: Sink> Writer<'a, K> {
     ///
     /// `WriteFault` comes only if the sink behind counted one fault; what it did not take is still
     /// held back.
-    pub fn flush(&mut self) -> Result<(), WriteFault>
+    fn flush(&mut self) -> Result<(), WriteFault>
+        ensures still { self.new.failed ≡ self.old.failed }
         ensures same_reference { self.new.sink.ghost_name ≡ self.old.sink.ghost_name }
         ensures puts { Puts result [] (gathered_told K.told self.old)
             (gathered_told K.told self.new) }
@@ -164,39 +175,32 @@ impl<'a, K: Sink> Writer<'a, K> {
         Ok(())
     }
 
-    /// Ends a text: if all of it was written here, passes on all that is held back. If not, answers
-    /// that fault again.
-    pub fn finish_with(&mut self, written: Result<(), WriteFault>) -> Result<(), WriteFault>
-        ensures same_reference { self.new.sink.ghost_name ≡ self.old.sink.ghost_name }
-        ensures puts { (text : List ℕ) (start : SinkState)
-            → Puts written text start (gathered_told K.told self.old)
-            → Puts result text start (gathered_told K.told self.new) }
-        ensures none_held { OnOk result (held self.new ≡ []) }
-    {
-        match written {
-            Ok(()) => self.flush(),
-            Err(WriteFault) => Err(WriteFault),
-        }
-    }
-
-    /// Makes room for so many bytes.
-    fn make_room(&mut self, count: usize) -> Result<(), WriteFault>
+    /// Makes room for so many bytes, and answers whether there is room: no write has failed.
+    fn has_room(&mut self, count: usize) -> bool
         requires few { count ≤ 8192 }
-        ensures same_reference { self.new.sink.ghost_name ≡ self.old.sink.ghost_name }
-        ensures puts { Puts result [] (gathered_told K.told self.old)
-            (gathered_told K.told self.new) }
-        ensures room { OnOk result (self.new.end + count ≤ length self.new.buffer) }
+        ensures nothing { Writes K.told [] self.old self.new }
+        ensures unfailed { self.new.failed ≡ not result }
+        ensures room { result ≡ true → self.new.end + count ≤ length self.new.buffer }
     {
-        if count <= ROOM - self.end {
-            return Ok(());
+        if self.failed {
+            return false;
         }
-        self.flush()
+        if count <= ROOM - self.end {
+            return true;
+        }
+        match self.flush() {
+            Ok(()) => true,
+            Err(WriteFault) => {
+                self.failed = true;
+                false
+            }
+        }
     }
 
     /// Holds a byte.
     fn hold_byte(&mut self, byte: u8)
-        requires room { self.old.end < length self.old.buffer }
-        ensures same_reference { self.new.sink.ghost_name ≡ self.old.sink.ghost_name }
+        requires room { self.old.end + 1 ≤ length self.old.buffer }
+        ensures still { self.new.failed ≡ self.old.failed }
         ensures wrote { Wrote (byte ∷ []) (gathered_told K.told self.old)
             (gathered_told K.told self.new) }
     {
@@ -208,7 +212,7 @@ impl<'a, K: Sink> Writer<'a, K> {
     /// Holds all of the bytes.
     fn hold_all(&mut self, bytes: &[u8])
         requires room { self.old.end + length bytes.now ≤ length self.old.buffer }
-        ensures same_reference { self.new.sink.ghost_name ≡ self.old.sink.ghost_name }
+        ensures still { self.new.failed ≡ self.old.failed }
         ensures wrote { Wrote bytes.now (gathered_told K.told self.old)
             (gathered_told K.told self.new) }
         ensures end { self.new.end ≡ self.old.end + length bytes.now }
@@ -221,7 +225,7 @@ impl<'a, K: Sink> Writer<'a, K> {
     /// Holds the digits of a number.
     fn hold_number(&mut self, value: u64)
         requires room { self.old.end + 20 ≤ length self.old.buffer }
-        ensures same_reference { self.new.sink.ghost_name ≡ self.old.sink.ghost_name }
+        ensures still { self.new.failed ≡ self.old.failed }
         ensures wrote { Wrote (decimal value) (gathered_told K.told self.old)
             (gathered_told K.told self.new) }
     {
@@ -236,98 +240,10 @@ impl<'a, K: Sink> Writer<'a, K> {
     /// Holds a number that rises, with its label.
     fn hold_rising(&mut self, number: &RisingText)
         requires room { self.old.end + 32 ≤ length self.old.buffer }
-        ensures same_reference { self.new.sink.ghost_name ≡ self.old.sink.ghost_name }
+        ensures still { self.new.failed ≡ self.old.failed }
         ensures wrote { Wrote (labelled_text number.now) (gathered_told K.told self.old)
             (gathered_told K.told self.new) }
     {
         self.end = number.place_in(&mut self.buffer, self.end);
-    }
-
-    /// Holds as many of the bytes as there is room for.
-    fn hold(&mut self, bytes: &[u8]) -> usize
-        requires some { 0 < length bytes.now }
-        requires room { self.old.end < length self.old.buffer }
-        ensures same_reference { self.new.sink.ghost_name ≡ self.old.sink.ghost_name }
-        ensures least { 0 < result }
-        ensures most { result ≤ length bytes.now }
-        ensures wrote { Wrote (take result bytes.now) (gathered_told K.told self.old)
-            (gathered_told K.told self.new) }
-    {
-        let room = self.buffer.len() - self.end;
-        let count = if bytes.len() < room {
-            bytes.len()
-        } else {
-            room
-        };
-        place(&mut self.buffer, self.end, &bytes[..count]);
-        self.end += count;
-        count
-    }
-}
-
-impl<'a, K: Sink> Sink for Writer<'a, K> {
-    ghost use Rattle.edge_io.specs.Gathering.{gathered_told};
-
-    ghost told = { λ g. gathered_told K.told g };
-
-    fn write(&mut self, bytes: &[u8]) -> Result<usize, Failed> {
-        match self.make_room(1) {
-            Ok(()) => Ok(self.hold(bytes)),
-            Err(WriteFault) => Err(Failed),
-        }
-    }
-}
-
-impl<'a, K: Sink> TextSink for Writer<'a, K> {
-    fn text(&mut self, bytes: &[u8]) -> Result<(), WriteFault> {
-        if bytes.len() > ROOM {
-            return put_all(self, bytes);
-        }
-        match self.make_room(bytes.len()) {
-            Ok(()) => {}
-            Err(WriteFault) => return Err(WriteFault),
-        }
-        self.hold_all(bytes);
-        Ok(())
-    }
-
-    fn number(&mut self, value: u64) -> Result<(), WriteFault> {
-        match self.make_room(MOST_DIGITS) {
-            Ok(()) => {}
-            Err(WriteFault) => return Err(WriteFault),
-        }
-        self.hold_number(value);
-        Ok(())
-    }
-
-    fn labelled(&mut self, label: &[u8], value: u64) -> Result<(), WriteFault> {
-        if label.len() > ROOM - MOST_DIGITS {
-            return put_pieces(self, &[Piece::Text(label), Piece::Number(value)]);
-        }
-        match self.make_room(label.len() + MOST_DIGITS) {
-            Ok(()) => {}
-            Err(WriteFault) => return Err(WriteFault),
-        }
-        self.hold_all(label);
-        self.hold_number(value);
-        Ok(())
-    }
-
-    fn byte(&mut self, byte: u8) -> Result<(), WriteFault> {
-        match self.make_room(1) {
-            Ok(()) => {}
-            Err(WriteFault) => return Err(WriteFault),
-        }
-        self.hold_byte(byte);
-        Ok(())
-    }
-
-    fn rising(&mut self, number: &RisingText) -> Result<(), WriteFault> {
-        match self.make_room(MOST_RISING) {
-            Ok(()) => {}
-            Err(WriteFault) => return Err(WriteFault),
-        }
-        self.hold_rising(number);
-        Ok(())
     }
 }

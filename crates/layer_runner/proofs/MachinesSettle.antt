@@ -82,12 +82,3 @@ readers_fit layer machine shape script fits for whole over = record {
   whole = whole;
   over = over;
 }
-
--- the faulty nodes of each era are tolerated by the machine's counter
-pub borne_all : {Kept : Type 0} (machine : Machine) (layer : Layer Kept) (script : Script)
-    → IsReadWithLayer machine layer script
-    → All (Bears (machine_counter machine)) (faulty_sets script)
-borne_all machine layer script is =
-    All-weaker (IsTolerated machine.nodes machine.faults) (Bears (machine_counter machine))
-    (λ faulty few. record { rising = few.rising; ids = few.ids; few = few.few })
-    (faulty_sets script) is.right.borne

@@ -67,13 +67,6 @@ module _ (row : ℕ → List ℕ) (first last : ℕ) where
     both : (t : ℕ) → first ≤ t → t ≤ last → nat_le first t && nat_le t last ≡ true
     both t le ge = ap (λ (b : Bool). b && nat_le t last) (le-leb first t le) ∙ le-leb t last ge
 
-  -- what stands after them
-  pub rows_rest : (t : ℕ)
-      → flat_map row rows ≡ rows_before t ++ flat_map row (drop (t - first) rows)
-  rows_rest t =
-      ap (flat_map row) (sym (take-append-drop (t - first) rows))
-      ∙ flat_map-append row (take (t - first) rows) (drop (t - first) rows)
-
   -- before the first row there is none, and after the last there are all
   pub none_before : rows_before 0 ≡ []
   none_before =

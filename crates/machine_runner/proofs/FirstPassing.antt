@@ -11,12 +11,6 @@ pub same_known : (known : Option ℕ) (now : ℕ) → first_of known false now �
 same_known (Some t) now = refl
 same_known None now = refl
 
--- once one is known, nothing is asked of a further one
-pub once_known : (known : Option ℕ) (locked : Bool) (now : ℕ) → is_some known ≡ true
-    → first_of known true now ≡ first_of known locked now
-once_known (Some t) locked now some = refl
-once_known None locked now some = absurd (true≢false (sym some))
-
 -- the first number up to n that passes, if one does
 abbrev pub IsFirst : (ℕ → Bool) → (n : ℕ) → Option ℕ → Type 0
 IsFirst passes n (Some w) = (w ≤ n) × (passes w ≡ true) × ((t : ℕ) → t < w → passes t ≡ false)

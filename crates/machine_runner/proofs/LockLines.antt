@@ -7,12 +7,6 @@ use Rattle.adversary_script.specs.Scripts.{Script}
 use Rattle.texts.specs.Growth.{SinkState, Puts}
 use Rattle.machine_runner.specs.RunTexts.{locked_line, era_line, lock_lines}
 
--- a text that ends a line
-pub puts_last : {T E : Type 0} (result : Result T E) (text : List ℕ) (s t : SinkState)
-    → Puts result text s t → Puts result (text ++ []) s t
-puts_last result text s t puts =
-    subst (λ (x : List ℕ). Puts result x s t) (sym (append-nil text)) puts
-
 module _ (script : Script) (lock_of_era : ℕ → Option ℕ) (version : ℕ)
     (is : version ≡ script.version) where
   abbrev pub all_eras : List ℕ

@@ -1,9 +1,9 @@
 -- What calls of a node write, as states of their nodes.
-use Rattle.std.proofs.Common.{◌≡◌, ℕ, ◌+◌, ◌<◌, ◌^◌, ◌≤◌, List, [], Option, Some, unwrap_or}
+use Rattle.std.proofs.Common.{◌≡◌, ℕ, ◌+◌, ◌<◌, ◌≤◌, List, [], Option, Some, unwrap_or}
 use Rattle.std.proofs.Common.{take, Result, Ok, Err, refl, sym, ap, subst, ◌∙◌, arith}
 use Rattle.std.specs.Prelude.{IfOk, IsSome}
 use Rattle.std.proofs.lemmas.List.FromFn.{get_or-map-range_with_len}
-use Rattle.texts.specs.Limits.{room_in, behind_lines}
+use Rattle.texts.specs.Limits.{room_in, behind_lines, longest_input}
 use Rattle.sync_types.specs.States.{State, zero_state}
 use Rattle.construction.specs.Steps.{state_of}
 use Rattle.state_codec.specs.Reading.{read}
@@ -65,7 +65,7 @@ module _ {Reader Plan Premise : Type 0} (words : Words Reader Plan Premise) wher
   module _ {Accepted : Plan → Type 0} (law : HeadersAreOfMachines words Accepted) (m : Machine)
       (v : ℕ) (call : Call) (is : IsOfNode words m v call) where
     of_machine : (c : Call) → IfOk (header_of words c) (IsOfMachine words Accepted)
-    of_machine (whole input) = law.all (room_in (2 ^ 20) input) input
+    of_machine (whole input) = law.all (room_in longest_input input) input
     of_machine (failed seen) = law.whole seen
 
     pub header_is : IsOfMachine words Accepted is.header

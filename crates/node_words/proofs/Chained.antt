@@ -1,10 +1,10 @@
 -- One part of a header after another.
-use Rattle.std.proofs.Common.{◌≡◌, ℕ, ◌+◌, ◌-◌, ◌^◌, Bool, true, false, List, [], ◌++◌, Option}
+use Rattle.std.proofs.Common.{◌≡◌, ℕ, ◌+◌, ◌-◌, Bool, true, false, List, [], ◌++◌, Option}
 use Rattle.std.proofs.Common.{Some, None, Result, Ok, Err, refl, sym, ap, ◌∙◌, append_assoc}
 use Rattle.std.proofs.Common.{length-append, subst, arith}
 use Rattle.std.proofs.KnownBytes.{Consumes-trans}
 use Rattle.texts.specs.Lines.{lines_of, whole_lines}
-use Rattle.texts.specs.Limits.{by, room_of, behind_lines}
+use Rattle.texts.specs.Limits.{by, room_of, behind_lines, longest_input}
 use Rattle.texts.specs.Words.{open_rest}
 use Rattle.texts.proofs.LineByLine.{behind_both}
 use Rattle.edge_io.proofs.Chains.{open_second}
@@ -34,17 +34,17 @@ module _ {Reader Plan Premise : Type 0} (plans : PlanPart Reader Plan Premise) w
   -- the header of a text of which so many bytes may be read
   abbrev header_by : (longer : Bool) → List ℕ
       → Result (HeaderOf Plan) (Option (HeaderRefusal Premise))
-  header_by longer bytes = header_in plans (room_of longer (2 ^ 20)) (lines_of bytes)
+  header_by longer bytes = header_in plans (room_of longer longest_input) (lines_of bytes)
 
   -- ---- the first part is not read
 
   module _ (s t : Option (List ℕ)) (after : ℕ) where
-    lost_first : LostPart (plan_line plans) plans.form plans.unread 1 (2 ^ 20) 0 s t
+    lost_first : LostPart (plan_line plans) plans.form plans.unread 1 longest_input 0 s t
         → HeaderLost plans s t
     lost_first h =
         record { bytes = h.bytes; read = h.read; lost = pending_first plans h.bytes h.lost }
 
-    long_first : Undecided (plan_line plans) plans.form plans.unread 1 (2 ^ 20) 0 s t
+    long_first : Undecided (plan_line plans) plans.form plans.unread 1 longest_input 0 s t
         → HeaderTooLong plans s t
     long_first h = record {
       bytes = h.bytes;
@@ -56,7 +56,7 @@ module _ {Reader Plan Premise : Type 0} (plans : PlanPart Reader Plan Premise) w
     }
 
     refused_first : (line : ℕ) (p : Premise)
-        → Decided (plan_line plans) plans.form plans.unread 1 (2 ^ 20) 0 after s t
+        → Decided (plan_line plans) plans.form plans.unread 1 longest_input 0 after s t
         (λ room rest. Err (record { line = line; rule = by p }))
         → HeaderDecided plans s t (Err (Some (refusal.Plan line p)))
     refused_first line p d = record {
@@ -70,7 +70,7 @@ module _ {Reader Plan Premise : Type 0} (plans : PlanPart Reader Plan Premise) w
       decides = λ longer rest follows. ap (behind_plan plans) (d.decides longer rest follows);
     }
 
-    halted_first : HaltedPart (plan_line plans) plans.form plans.unread 1 (2 ^ 20) 0 s t
+    halted_first : HaltedPart (plan_line plans) plans.form plans.unread 1 longest_input 0 s t
         → HeaderHalted plans s t
     halted_first h = record {
       bytes = h.bytes;
@@ -82,7 +82,7 @@ module _ {Reader Plan Premise : Type 0} (plans : PlanPart Reader Plan Premise) w
     }
 
     failed_first : (e : FedError Premise)
-        → PartFed (plan_line plans) plans.form plans.unread 1 (2 ^ 20) 0 after s t (Err e)
+        → PartFed (plan_line plans) plans.form plans.unread 1 longest_input 0 after s t (Err e)
         → HeaderFed plans s t (Err (plan_failed e))
     failed_first fed.ReadFault h = lost_first h
     failed_first fed.TooLong h = long_first h
@@ -93,7 +93,7 @@ module _ {Reader Plan Premise : Type 0} (plans : PlanPart Reader Plan Premise) w
     abbrev PlanFed : (reader : Reader) (before : ℕ) → Result (FedPart Plan) (FedError Premise)
         → Type 0
     PlanFed reader before result =
-        PartFed (plan_line plans) plans.form reader 1 (2 ^ 20) before after s t result
+        PartFed (plan_line plans) plans.form reader 1 longest_input before after s t result
 
     module _ (reader : Reader) (before : ℕ) (unread : reader ≡ plans.unread) (none : before ≡ 0)
       where
@@ -115,7 +115,7 @@ module _ {Reader Plan Premise : Type 0} (plans : PlanPart Reader Plan Premise) w
   module _ (first before last : ℕ) (t u : Option (List ℕ)) where
     abbrev NodeFed : (reader : HeaderSoFar) → Result (FedPart NodeHeader) (FedError Rule) → Type 0
     NodeFed reader result =
-        PartFed node_line rule.Form reader first (2 ^ 20) before last t u result
+        PartFed node_line rule.Form reader first longest_input before last t u result
 
     module _ (plan : Plan) (shape : Shape) (reader : HeaderSoFar)
         (shaped : shape ≡ plans.shape plan)
@@ -134,13 +134,13 @@ module _ {Reader Plan Premise : Type 0} (plans : PlanPart Reader Plan Premise) w
       pub node_fits : IsShape shape → (y : FedPart NodeHeader) → NodeFed reader (Ok y)
           → IsFit shape y.value
       node_fits sound y h =
-          header_fits shape sound first (2 ^ 20) before last t u y
+          header_fits shape sound first longest_input before last t u y
           (subst (λ (r : HeaderSoFar). NodeFed r (Ok y)) unread h)
 
   -- ---- the first part is read
 
   module _ (s t : Option (List ℕ)) (after : ℕ) (x : FedPart Plan)
-      (w : WholePart (plan_line plans) plans.form plans.unread 1 (2 ^ 20) 0 after s t x) where
+      (w : WholePart (plan_line plans) plans.form plans.unread 1 longest_input 0 after s t x) where
     -- its last line is that of the input
     pub ends_first : w.decided.ended ≡ true
         → HeaderDecided plans s t (Err (Some (refusal.Node (1 + x.lines) rule.Form)))
@@ -160,7 +160,7 @@ module _ {Reader Plan Premise : Type 0} (plans : PlanPart Reader Plan Premise) w
               ap (behind_plan plans) (d.decides longer rest follows)
               ∙ ap (λ (l : List ℕ). behind_node x.value x.lines
               (limited_part node_line rule.Form (nothing_read (plans.shape x.value)) 0 (1 + x.lines)
-              (room_of longer (2 ^ 20 - after)) (lines_of l))) none;
+              (room_of longer (longest_input - after)) (lines_of l))) none;
         }
 
     -- memory runs out after it
@@ -193,19 +193,19 @@ module _ {Reader Plan Premise : Type 0} (plans : PlanPart Reader Plan Premise) w
       front = w.decided.bytes
 
       opens : (bytes : List ℕ) → open_rest (front ++ bytes) ≡ open_rest bytes
-      opens = open_second (plan_line plans) plans.form plans.unread 1 (2 ^ 20) 0 after s t x w
+      opens = open_second (plan_line plans) plans.form plans.unread 1 longest_input 0 after s t x w
           goes_on
 
       -- the first part, and then the second from some bytes
       chained : (longer : Bool) (bytes rest : List ℕ) → header_by longer ((front ++ bytes) ++ rest)
           ≡ behind_node x.value x.lines (limited_part node_line rule.Form start 0 (1 + x.lines)
-          (room_of longer (2 ^ 20 - after)) (lines_of (bytes ++ rest)))
+          (room_of longer (longest_input - after)) (lines_of (bytes ++ rest)))
       chained longer bytes rest =
           ap (header_by longer) (append_assoc front bytes rest)
           ∙ ap (behind_plan plans)
           (w.decided.decides longer (bytes ++ rest) (anything longer (bytes ++ rest)))
 
-      lost_second : LostPart node_line rule.Form start (1 + x.lines) (2 ^ 20) after t u
+      lost_second : LostPart node_line rule.Form start (1 + x.lines) longest_input after t u
           → HeaderLost plans s u
       lost_second h = record {
         bytes = front ++ h.bytes;
@@ -213,7 +213,7 @@ module _ {Reader Plan Premise : Type 0} (plans : PlanPart Reader Plan Premise) w
         lost = pending h.bytes h.lost;
       }
 
-      long_second : Undecided node_line rule.Form start (1 + x.lines) (2 ^ 20) after t u
+      long_second : Undecided node_line rule.Form start (1 + x.lines) longest_input after t u
           → HeaderTooLong plans s u
       long_second h = record {
         bytes = front ++ h.bytes;
@@ -225,7 +225,7 @@ module _ {Reader Plan Premise : Type 0} (plans : PlanPart Reader Plan Premise) w
       }
 
       refused_second : (line : ℕ) (r : Rule)
-          → Decided node_line rule.Form start (1 + x.lines) (2 ^ 20) after last t u
+          → Decided node_line rule.Form start (1 + x.lines) longest_input after last t u
           (λ room rest. Err (record { line = line; rule = by r }))
           → HeaderDecided plans s u (Err (Some (refusal.Node line r)))
       refused_second line r d = record {
@@ -241,7 +241,7 @@ module _ {Reader Plan Premise : Type 0} (plans : PlanPart Reader Plan Premise) w
             ∙ ap (behind_node x.value x.lines) (d.decides longer rest follows);
       }
 
-      halted_second : HaltedPart node_line rule.Form start (1 + x.lines) (2 ^ 20) after t u
+      halted_second : HaltedPart node_line rule.Form start (1 + x.lines) longest_input after t u
           → HeaderHalted plans s u
       halted_second h = record {
         bytes = front ++ h.bytes;
@@ -253,7 +253,7 @@ module _ {Reader Plan Premise : Type 0} (plans : PlanPart Reader Plan Premise) w
       }
 
       pub second_failed : (e : FedError Rule)
-          → PartFed node_line rule.Form start (1 + x.lines) (2 ^ 20) after last t u (Err e)
+          → PartFed node_line rule.Form start (1 + x.lines) longest_input after last t u (Err e)
           → HeaderFed plans s u (Err (node_failed e))
       second_failed fed.ReadFault h = lost_second h
       second_failed fed.TooLong h = long_second h
@@ -261,7 +261,7 @@ module _ {Reader Plan Premise : Type 0} (plans : PlanPart Reader Plan Premise) w
       second_failed fed.NoMemory h = halted_second h
 
       pub whole_second : (y : FedPart NodeHeader)
-          → WholePart node_line rule.Form start (1 + x.lines) (2 ^ 20) after last t u y
+          → WholePart node_line rule.Form start (1 + x.lines) longest_input after last t u y
           → (shape : Shape)
           → HeaderWhole plans s u (record {
             plan = x.value;

@@ -1,5 +1,5 @@
 -- What a call did whose header was not whole.
-use Rattle.std.proofs.Common.{◌≡◌, ℕ, ◌^◌, Bool, true, ltb, List, [], ◌++◌, length, Option, Some}
+use Rattle.std.proofs.Common.{◌≡◌, ℕ, Bool, true, ltb, List, [], ◌++◌, length, Option, Some}
 use Rattle.std.proofs.Common.{Err, sym, ap, ◌∙◌, subst, length-append, arith}
 use Rattle.std.specs.Io.KnownBytes.{prepend_known, Keeps}
 use Rattle.std.proofs.lemmas.Bool.{lt-ltb}
@@ -7,7 +7,7 @@ use Rattle.texts.specs.Causes.{Counted}
 use Rattle.texts.specs.Growth.{SinkState, Wrote, Cut}
 use Rattle.texts.proofs.Growth.{wrote_none}
 use Rattle.texts.specs.Lines.{lines_of}
-use Rattle.texts.specs.Limits.{room_of}
+use Rattle.texts.specs.Limits.{room_of, longest_input}
 use Rattle.node_words.specs.declared.headers.HeaderRefusal.{HeaderRefusal}
 use Rattle.node_words.specs.HeaderParts.{header_in}
 use Rattle.node_words.specs.FedHeaders.{HeaderDecided, HeaderTooLong, HeaderLost}
@@ -41,13 +41,13 @@ module _ {Reader Plan Premise : Type 0} (words : Words Reader Plan Premise)
       → NodeDoes words (Err error.TooLong) s l before now t t
   header_long t h still =
       let input = h.bytes ++ (held ++ left_of l) in
-      let above : ltb (2 ^ 20) (length input)
-      ≡ true = lt-ltb (2 ^ 20) (length input)
+      let above : ltb longest_input (length input)
+      ≡ true = lt-ltb longest_input (length input)
       (omega (arith, length-append h.bytes (held ++ left_of l), h.past)) in
       let is : node_outcome words input
       ≡ too_long = ap
       (λ (b : Bool). behind_header words input
-      (header_in words.part (room_of b (2 ^ 20)) (lines_of input)))
+      (header_in words.part (room_of b longest_input) (lines_of input)))
       above
       ∙ ap (behind_header words input) (h.decides (held ++ left_of l)) in
       record {
@@ -68,7 +68,7 @@ module _ {Reader Plan Premise : Type 0} (words : Words Reader Plan Premise)
     refused_is : node_outcome words (d.bytes ++ whole_input.rest) ≡ refused_header words (Some r)
     refused_is =
         ap (behind_header words (d.bytes ++ whole_input.rest))
-        (d.decides (ltb (2 ^ 20) (length (d.bytes ++ whole_input.rest))) whole_input.rest
+        (d.decides (ltb longest_input (length (d.bytes ++ whole_input.rest))) whole_input.rest
         whole_input.follows)
 
     pub header_cut : (t u : SinkState) → Cut (header_line words r) t u

@@ -1,10 +1,10 @@
 -- Inputs of nodes over packets: the text of each one's header, and its packets after it.
-use Rattle.std.proofs.Common.{◌≡◌, ◌≢◌, ℕ, ◌+◌, ◌^◌, ◌<◌, ◌≤◌, Bool, true, List, [], ◌++◌, length}
+use Rattle.std.proofs.Common.{◌≡◌, ◌≢◌, ℕ, ◌+◌, ◌<◌, ◌≤◌, Bool, true, List, [], ◌++◌, length}
 use Rattle.std.proofs.Common.{get_or, Some, Result, Ok, refl, sym, ap, subst, ◌∙◌, arith}
 use Rattle.std.specs.Prelude.{nat_lt}
 use Rattle.std.specs.List.{flat_map}
 use Rattle.texts.specs.Lines.{lines_of}
-use Rattle.texts.specs.Limits.{room_of, behind_lines}
+use Rattle.texts.specs.Limits.{room_of, behind_lines, longest_input}
 use Rattle.sync_types.specs.States.{State}
 use Rattle.state_codec.specs.Writing.{written}
 use Rattle.machines.specs.Machines.{Machine, IsState}
@@ -40,7 +40,7 @@ pub record AreWritten {Reader Plan Premise : Type 0} (words : Words Reader Plan 
   pub bytes : (plan : Plan) (v : ℕ) (s : State) → AreBytes (text plan v s)
   pub read : (plan : Plan) → Accepted plan → (v : ℕ) → v < (words.machine plan).nodes
       → (s : State) → IsState (words.machine plan) v s → (longer : Bool) (rest : List ℕ)
-      → (header_in words.part (room_of longer (2 ^ 20)) (lines_of (text plan v s ++ rest))
+      → (header_in words.part (room_of longer longest_input) (lines_of (text plan v s ++ rest))
       ≡ Ok (header_stated (lines plan) plan v s))
       × (behind_lines (lines plan) (text plan v s ++ rest) ≡ rest)
 
@@ -106,7 +106,7 @@ module _ {Reader Plan Premise : Type 0} (words : Words Reader Plan Premise)
     header = header_stated (lines plan) plan v s
 
     read : (longer : Bool)
-        → (header_in words.part (room_of longer (2 ^ 20)) (lines_of input) ≡ Ok header)
+        → (header_in words.part (room_of longer longest_input) (lines_of input) ≡ Ok header)
         × (behind_lines (lines plan) input ≡ flat_map packet_text packets)
     read longer =
         law.read plan (stated.accepted v) v
@@ -115,7 +115,7 @@ module _ {Reader Plan Premise : Type 0} (words : Words Reader Plan Premise)
         (flat_map packet_text packets)
 
     header_is : header_of words (whole input) ≡ Ok header
-    header_is = (read (nat_lt (2 ^ 20) (length input))).0
+    header_is = (read (nat_lt longest_input (length input))).0
 
     abbrev all : Packets
     all = record { cells = packets; ending = all_whole (0 + length packets) }

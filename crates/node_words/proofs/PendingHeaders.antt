@@ -1,10 +1,11 @@
 -- What does not show what decides a part of a header does not show what decides the header.
-use Rattle.std.proofs.Common.{◌≡◌, ◌⊎◌, ℕ, ◌+◌, ◌^◌, Bool, true, false, List, [], ◌∷◌, ◌++◌, length}
+use Rattle.std.proofs.Common.{◌≡◌, ◌⊎◌, ℕ, ◌+◌, Bool, true, false, List, [], ◌∷◌, ◌++◌, length}
 use Rattle.std.proofs.Common.{Option, refl, sym, ap, ◌∙◌, subst, append_assoc, arith}
 use Rattle.texts.specs.Lines.{whole_lines}
 use Rattle.texts.specs.Parts.{Next, with_skips}
 use Rattle.texts.specs.Pending.{AllButLast, AtOnce}
 use Rattle.texts.specs.Words.{open_rest}
+use Rattle.texts.specs.Limits.{longest_input}
 use Rattle.edge_io.specs.declared.fed_parts.FedPart.{FedPart}
 use Rattle.edge_io.specs.FedParts.{PartPending, WholePart}
 use Rattle.edge_io.proofs.Chains.{counts_behind, goes_on_behind}
@@ -48,7 +49,7 @@ module _ (P Q : List ℕ → Type 0) (front : List ℕ)
 module _ {Reader Plan Premise : Type 0} (plans : PlanPart Reader Plan Premise) where
   -- in the plan
   abbrev pub PlanPending : List ℕ → Type 0
-  PlanPending bytes = PartPending (plan_line plans) plans.form plans.unread 1 (2 ^ 20) 0 bytes
+  PlanPending bytes = PartPending (plan_line plans) plans.form plans.unread 1 longest_input 0 bytes
 
   pub pending_first : (bytes : List ℕ) → PlanPending bytes → HeaderPending plans bytes
   pending_first bytes p = record {
@@ -60,18 +61,20 @@ module _ {Reader Plan Premise : Type 0} (plans : PlanPart Reader Plan Premise) w
 
   -- in the node part
   module _ (s t : Option (List ℕ)) (after : ℕ) (x : FedPart Plan)
-      (w : WholePart (plan_line plans) plans.form plans.unread 1 (2 ^ 20) 0 after s t x)
+      (w : WholePart (plan_line plans) plans.form plans.unread 1 longest_input 0 after s t x)
       (goes_on : w.decided.ended ≡ false) where
     abbrev pub NodePending : List ℕ → Type 0
     NodePending bytes =
-        PartPending node_line rule.Form (nothing_read (plans.shape x.value)) (1 + x.lines) (2 ^ 20)
+        PartPending node_line rule.Form (nothing_read (plans.shape x.value)) (1 + x.lines)
+        longest_input
         after
         bytes
 
     pub pending_second : (bytes : List ℕ) → NodePending bytes
         → HeaderPending plans (w.decided.bytes ++ bytes)
     pending_second bytes p =
-        let lines = counts_behind (plan_line plans) plans.form plans.unread 1 (2 ^ 20) 0 after s t x
+        let lines = counts_behind (plan_line plans) plans.form plans.unread 1 longest_input 0 after s t
+        x
         w goes_on
         bytes in
         record {
@@ -79,7 +82,8 @@ module _ {Reader Plan Premise : Type 0} (plans : PlanPart Reader Plan Premise) w
           lines = ap (behind_plan plans) (w.whole goes_on bytes)
               ∙ ap (behind_node x.value x.lines) p.lines;
           behind = omega (arith, lines);
-          room = goes_on_behind (plan_line plans) plans.form plans.unread 1 (2 ^ 20) 0 after s t x w
+          room = goes_on_behind (plan_line plans) plans.form plans.unread 1 longest_input 0 after s t x
+              w
               goes_on bytes
               p.room;
         }

@@ -1,10 +1,11 @@
 -- What was read of a feed, of its source.
-use Rattle.std.proofs.Common.{◌≡◌, ℕ, ◌-◌, ◌≤◌, ◌^◌, Bool, true, false, ltb, List, [], ◌∷◌, ◌++◌}
+use Rattle.std.proofs.Common.{◌≡◌, ℕ, ◌-◌, ◌≤◌, Bool, true, false, ltb, List, [], ◌∷◌, ◌++◌}
 use Rattle.std.proofs.Common.{length, take, drop, Option, Some, None, Result, refl, sym, ap, ◌∙◌}
 use Rattle.std.proofs.Common.{subst, append_assoc, append-nil, length-append, arith}
 use Rattle.std.specs.Io.KnownBytes.{prepend_known, Consumes, Keeps, IsAtEnd}
 use Rattle.std.proofs.lemmas.Bool.{le-ltb}
 use Rattle.texts.specs.Growth.{SinkState}
+use Rattle.texts.specs.Limits.{longest_input}
 use Rattle.edge_io.specs.FedParts.{MayFollow}
 use Rattle.node_words.specs.declared.errors.NodeError.{NodeError}
 use Rattle.node_words.specs.Constructions.{Words}
@@ -80,18 +81,21 @@ all_front s (Some ys) bytes h =
 pub record Input (s l : Option (List ℕ)) (bytes : List ℕ) (ended : Bool) : Type 0 where
   pub rest : List ℕ
   pub read : ReadsFront s l (bytes ++ rest)
-  pub follows : MayFollow ended (ltb (2 ^ 20) (length (bytes ++ rest))) rest
+  pub follows : MayFollow ended (ltb longest_input (length (bytes ++ rest))) rest
 
 pub input_of : (ended : Bool) (s f l : Option (List ℕ)) (held bytes : List ℕ)
-    → length bytes ≤ 2 ^ 20 → Keeps s f → Consumes f (prepend_known held l) bytes
+    → length bytes ≤ longest_input → Keeps s f → Consumes f (prepend_known held l) bytes
     → (ended ≡ true → IsAtEnd (prepend_known held l)) → Input s l bytes ended
 input_of true s f l held bytes short keeps read end = record {
   rest = [];
   read =
       subst (ReadsFront s l) (sym (append-nil bytes))
       (all_front s l bytes (reads_all s f l held bytes keeps read (end refl)));
-  follows =
-      (refl, le-ltb (2 ^ 20) (length (bytes ++ [])) (omega (arith, length-append bytes [], short)));
+  follows = (
+    refl,
+    le-ltb longest_input (length (bytes ++ []))
+        (omega (arith, length-append bytes [], short)),
+  );
 }
 input_of false s f l held bytes short keeps read end =
     record

@@ -1,5 +1,5 @@
 -- What a call did whose header was whole.
-use Rattle.std.proofs.Common.{◌≡◌, ℕ, ◌^◌, Bool, true, false, ltb, List, [], ◌++◌, length, Option}
+use Rattle.std.proofs.Common.{◌≡◌, ℕ, Bool, true, false, ltb, List, [], ◌++◌, length, Option}
 use Rattle.std.proofs.Common.{Some, None, Result, Ok, Err, refl, sym, ap, ◌∙◌, subst, append_assoc}
 use Rattle.std.proofs.Common.{append-nil, length-append, arith}
 use Rattle.std.specs.Io.KnownBytes.{prepend_known, Consumes, Keeps, IsAtEnd}
@@ -7,7 +7,7 @@ use Rattle.std.proofs.KnownBytes.{Consumes-trans}
 use Rattle.std.proofs.lemmas.Bool.{le-ltb}
 use Rattle.texts.specs.Causes.{Counted}
 use Rattle.texts.proofs.Causes.{never_counted}
-use Rattle.texts.specs.Limits.{behind_lines}
+use Rattle.texts.specs.Limits.{behind_lines, longest_input}
 use Rattle.texts.specs.Growth.{SinkState, Wrote, Cut}
 use Rattle.edge_io.specs.FedParts.{MayFollow}
 use Rattle.machines.specs.Machines.{Machine}
@@ -43,7 +43,7 @@ module _ {Reader Plan Premise M : Type 0} (words : Words Reader Plan Premise)
       ≡ served_outcome words w.header (packets_for words w.header rest)
   node_is rest =
       let input = w.decided.bytes ++ rest in
-      let longer = ltb (2 ^ 20) (length input) in
+      let longer = ltb longest_input (length input) in
       ap (behind_header words input) (w.decided.decides longer rest (anything longer rest))
       ∙ ap (λ (b : List ℕ). served_outcome words w.header (packets_for words w.header b))
       (w.behind longer rest (anything longer rest))
@@ -168,11 +168,11 @@ module _ {Reader Plan Premise M : Type 0} (words : Words Reader Plan Premise)
     ended_is : w.decided.ended ≡ true
     ended_is = w.ends ∙ over
 
-    last_follows : MayFollow w.decided.ended (ltb (2 ^ 20) (length (w.decided.bytes ++ []))) []
-    last_follows = subst (λ (b : Bool). MayFollow b (ltb (2 ^ 20) (length (w.decided.bytes ++ [])))
-        []) (sym ended_is) (
+    last_follows : MayFollow w.decided.ended (ltb longest_input (length (w.decided.bytes ++ []))) []
+    last_follows = subst (λ (b : Bool).
+        MayFollow b (ltb longest_input (length (w.decided.bytes ++ []))) []) (sym ended_is) (
           refl,
-          le-ltb (2 ^ 20) (length (w.decided.bytes ++ []))
+          le-ltb longest_input (length (w.decided.bytes ++ []))
               (omega (arith, length-append w.decided.bytes [], w.decided.within)),
         )
 
@@ -180,7 +180,7 @@ module _ {Reader Plan Premise M : Type 0} (words : Words Reader Plan Premise)
         ≡ served_outcome words w.header (packets_for words w.header [])
     node_end =
         let input = w.decided.bytes ++ [] in
-        let above = ltb (2 ^ 20) (length input) in
+        let above = ltb longest_input (length input) in
         ap (behind_header words input) (w.decided.decides above [] last_follows)
         ∙ ap (λ (b : List ℕ). served_outcome words w.header (packets_for words w.header b))
         (w.behind above [] last_follows)

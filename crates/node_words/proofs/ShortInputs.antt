@@ -1,10 +1,10 @@
 -- No header is too long in an input that is not longer than a header may be.
-use Rattle.std.proofs.Common.{◌≡◌, ◌≢◌, ℕ, ◌+◌, ◌^◌, ◌≤◌, List, [], ◌∷◌, length, Option, None}
+use Rattle.std.proofs.Common.{◌≡◌, ◌≢◌, ℕ, ◌+◌, ◌≤◌, List, [], ◌∷◌, length, Option, None}
 use Rattle.std.proofs.Common.{Result, Ok, Err, refl, sym, ap, subst, ◌∙◌}
 use Rattle.std.proofs.lemmas.Bool.{le-ltb}
 use Rattle.texts.specs.Lines.{lines_of}
 use Rattle.texts.specs.Parts.{Next, goes, ends, refuses, with_skips, Found, At, part_from}
-use Rattle.texts.specs.Limits.{Limited, by, beyond, with_rest, with_limit, room_of}
+use Rattle.texts.specs.Limits.{Limited, by, beyond, with_rest, with_limit, room_of, longest_input}
 use Rattle.edge_io.specs.FedParts.{limited_part}
 use Rattle.sync_types.specs.declared.answers.Rule.{Rule}
 use Rattle.sync_types.specs.declared.answers.Rule.TheVariants as rule
@@ -85,10 +85,10 @@ module _ {Reader Plan Premise : Type 0} (plans : PlanPart Reader Plan Premise) w
   short_plan (Err at) is same = some_plan at.line at.rule is same
 
 pub short_inputs : {Reader Plan Premise : Type 0} (words : Words Reader Plan Premise)
-    (input : List ℕ) → length input ≤ 2 ^ 20 → IsShort words input
+    (input : List ℕ) → length input ≤ longest_input → IsShort words input
 short_inputs words input few same =
     let plans = words.part in
-    let room = ap (λ b. room_of b (2 ^ 20)) (le-ltb (2 ^ 20) (length input) few) in
+    let room = ap (λ b. room_of b longest_input) (le-ltb longest_input (length input) few) in
     short_plan plans
     (limited_part (with_skips plans.step plans.form) plans.form plans.unread 0 1 None
     (lines_of input))

@@ -1,5 +1,5 @@
 -- A skipped line changes nothing of a header, within a limit too.
-use Rattle.std.proofs.Common.{◌≡◌, ◌≢◌, ℕ, zero, suc, ◌+◌, ◌-◌, ◌^◌, ◌<◌, ◌≤◌, Bool, true, false}
+use Rattle.std.proofs.Common.{◌≡◌, ◌≢◌, ℕ, zero, suc, ◌+◌, ◌-◌, ◌<◌, ◌≤◌, Bool, true, false}
 use Rattle.std.proofs.Common.{List, [], ◌∷◌, ◌++◌, length, Option, Some, None, Result, Ok, Err}
 use Rattle.std.proofs.Common.{All, refl, sym, ap, ◌∙◌, append_assoc, arith}
 use Rattle.std.specs.Prelude.{if◌then◌else◌}
@@ -10,6 +10,7 @@ use Rattle.texts.specs.Words.{text_of}
 use Rattle.texts.specs.Parts.{Next, goes, ends, refuses, is_skipped, with_skips, Found, At}
 use Rattle.texts.specs.Parts.{part_from}
 use Rattle.texts.specs.Limits.{Limited, by, beyond, shows, less, with_rest, with_limit, room_in}
+use Rattle.texts.specs.Limits.{longest_input}
 use Rattle.texts.specs.Limits.{behind_lines}
 use Rattle.texts.proofs.LineByLine.{line_first, behind_line}
 use Rattle.edge_io.specs.FedParts.{limited_part}
@@ -246,14 +247,14 @@ module _ {Reader Plan Premise : Type 0} (words : Words Reader Plan Premise)
 
   header : header_of words (whole new) ≡ moved_header n (header_of words (whole old))
   header =
-      plain_is words.part (room_in (2 ^ 20) new) (lines_of new) short_too
+      plain_is words.part (room_in longest_input new) (lines_of new) short_too
       ∙ ap (plain words.part 1)
       (lines_are before (line ++ 10 ∷ rest) are
       ∙ ap (λ lines. before ++ lines) (line_first line rest one))
       ∙ (plain_is_blind words.part line skipped few).among before (lines_of rest) n 1 (omega arith)
       ∙ ap (λ r. moved_header n r)
       (ap (plain words.part 1) (sym (lines_are before rest are))
-      ∙ sym (plain_is words.part (room_in (2 ^ 20) old) (lines_of old) short))
+      ∙ sym (plain_is words.part (room_in longest_input old) (lines_of old) short))
 
   module _ (h : HeaderOf Plan) (is : header_of words (whole old) ≡ Ok h) (lt : n < h.lines) where
     header_new : header_of words (whole new)

@@ -1,10 +1,10 @@
 -- The text of a header is read as that header, even if more follows than a header may have.
-use Rattle.std.proofs.Common.{◌≡◌, ℕ, ◌+◌, ◌*◌, ◌^◌, ◌<◌, ◌≤◌, Bool, true, false, List, [], ◌∷◌}
+use Rattle.std.proofs.Common.{◌≡◌, ℕ, ◌+◌, ◌*◌, ◌<◌, ◌≤◌, Bool, true, false, List, [], ◌∷◌}
 use Rattle.std.proofs.Common.{◌++◌, length, Option, Some, None, Result, Ok, refl, sym, ap, ◌∙◌}
 use Rattle.std.proofs.Common.{append_assoc, arith}
 use Rattle.texts.specs.Lines.{lines_of}
 use Rattle.texts.specs.Parts.{with_skips, part_from}
-use Rattle.texts.specs.Limits.{room_of, behind_lines}
+use Rattle.texts.specs.Limits.{room_of, behind_lines, longest_input}
 use Rattle.texts.proofs.LineByLine.{behind_both}
 use Rattle.texts.proofs.Parts.{counts_all}
 use Rattle.sync_types.specs.declared.answers.Rule.TheVariants as rule
@@ -44,7 +44,7 @@ pub record PlansReadBack {Reader Plan Premise : Type 0} (plans : PlanPart Reader
 
 -- a room of the limit shows the lines of a header
 room : (longer : Bool) (lines : ℕ) → lines ≤ 200
-    → HasRoom lines (4097 * 4) (room_of longer (2 ^ 20))
+    → HasRoom lines (4097 * 4) (room_of longer longest_input)
 room true lines few = omega arith
 room false lines few = tt
 
@@ -114,7 +114,7 @@ module _ {Reader Plan Premise : Type 0} (plans : PlanPart Reader Plan Premise)
         ∙ behind_part shape v s writable rest
 
     is_read : (longer : Bool) (rest : List ℕ)
-        → header_in plans (room_of longer (2 ^ 20))
+        → header_in plans (room_of longer longest_input)
         (lines_of (text_of_header plans writing plan v s ++ rest))
         ≡ Ok (stated_header plans writing plan v s)
     is_read longer rest =
@@ -123,13 +123,14 @@ module _ {Reader Plan Premise : Type 0} (plans : PlanPart Reader Plan Premise)
         let a =
         is_within (with_skips plans.step plans.form) plans.form (lines_of (first ++ behind))
         plans.unread 0 1 (record { value = plan; taken = n; behind = lines_of behind })
-        (law.read plan accepted behind) n (4097 * 4) (room_of longer (2 ^ 20)) (omega arith)
+        (law.read plan accepted behind) n (4097 * 4) (room_of longer longest_input) (omega arith)
         (room longer n (law.few plan accepted)) in
         let b =
         is_within (with_skips header_step rule.Form) rule.Form (lines_of behind)
         (nothing_read shape) 0 number (record { value = node; taken = 4; behind = lines_of rest })
         (part_is_read shape v s writable number rest) 4 0 a.left refl (roomy a.left a.has) in
-        ap (λ text. header_in plans (room_of longer (2 ^ 20)) (lines_of text)) (text_parts rest)
+        ap (λ text. header_in plans (room_of longer longest_input) (lines_of text))
+        (text_parts rest)
         ∙ ap (behind_plan plans) a.is ∙ ap (behind_node plan n) b.is
         ∙ ap (λ k. let h : HeaderOf Plan = record { plan = plan; node = node; lines = k } in
         let r : Result (HeaderOf Plan) (Option (HeaderRefusal Premise)) = Ok h in r)

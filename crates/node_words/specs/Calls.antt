@@ -1,10 +1,10 @@
 -- Calls of a node: what each reads and writes.
-use Rattle.std.specs.Prelude.{◌≡◌, ⊤, ℕ, ◌^◌, List, [], slice_index_or, Option, None, Result}
+use Rattle.std.specs.Prelude.{◌≡◌, ⊤, ℕ, List, [], slice_index_or, Option, None, Result}
 use Rattle.std.specs.Prelude.{Ok, Err}
 use Rattle.std.specs.Io.KnownBytes.{Consumes}
 use Rattle.texts.specs.Growth.{SinkState, Wrote}
 use Rattle.texts.specs.Lines.{lines_of, whole_lines}
-use Rattle.texts.specs.Limits.{room_in, behind_lines}
+use Rattle.texts.specs.Limits.{room_in, behind_lines, longest_input}
 use Rattle.machines.specs.Machines.{Machine}
 use Rattle.node_words.specs.declared.headers.HeaderRefusal.{HeaderRefusal}
 use Rattle.node_words.specs.HeaderParts.{HeaderOf, header_in}
@@ -26,7 +26,7 @@ bytes_of (failed seen) = seen
 module _ {Reader Plan Premise : Type 0} (words : Words Reader Plan Premise) where
   -- its header
   abbrev pub header_of : Call → Result (HeaderOf Plan) (Option (HeaderRefusal Premise))
-  header_of (whole input) = header_in words.part (room_in (2 ^ 20) input) (lines_of input)
+  header_of (whole input) = header_in words.part (room_in longest_input input) (lines_of input)
   header_of (failed seen) = header_in words.part None (whole_lines seen)
 
   -- the whole packets after it

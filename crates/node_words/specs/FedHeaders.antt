@@ -1,10 +1,10 @@
 -- What reading a header from a feed did.
-use Rattle.std.specs.Prelude.{◌≡◌, ℕ, ◌+◌, ◌^◌, ◌<◌, ◌≤◌, List, ◌++◌, length, Bool, true, false}
+use Rattle.std.specs.Prelude.{◌≡◌, ℕ, ◌+◌, ◌<◌, ◌≤◌, List, ◌++◌, length, Bool, true, false}
 use Rattle.std.specs.Prelude.{Option, Some, None, Result, Ok, Err}
 use Rattle.std.specs.Io.KnownBytes.{Consumes, IsAtEnd}
 use Rattle.texts.specs.Causes.{Counted}
 use Rattle.texts.specs.Lines.{lines_of, whole_lines}
-use Rattle.texts.specs.Limits.{room_of, behind_lines}
+use Rattle.texts.specs.Limits.{room_of, behind_lines, longest_input}
 use Rattle.texts.specs.Pending.{MayGoOn, AllButLast, AtOnce}
 use Rattle.edge_io.specs.declared.fed_parts.FedError.{FedError}
 use Rattle.edge_io.specs.declared.fed_parts.FedError.TheVariants as fed
@@ -29,7 +29,7 @@ module _ {Reader Plan Premise : Type 0} (plans : PlanPart Reader Plan Premise) w
     pub refusal : HeaderRefusal Premise
     pub lines : header_in plans None (whole_lines bytes) ≡ Err (Some refusal)
     pub behind : refused_line refusal ≡ 1 + length (whole_lines bytes)
-    pub room : MayGoOn (2 ^ 20) 0 bytes
+    pub room : MayGoOn longest_input 0 bytes
 
   -- These bytes were read, and show what decides the header, whatever may follow. That is the last
   -- of them, with which a line shows, or the end.
@@ -39,10 +39,10 @@ module _ {Reader Plan Premise : Type 0} (plans : PlanPart Reader Plan Premise) w
     pub ended : Bool
     pub read : Consumes old new bytes
     pub at_end : ended ≡ true → IsAtEnd new
-    pub within : length bytes ≤ 2 ^ 20
+    pub within : length bytes ≤ longest_input
     pub at_once : AtOnce ended HeaderPending bytes
     pub decides : (longer : Bool) (rest : List ℕ) → MayFollow ended longer rest
-        → header_in plans (room_of longer (2 ^ 20)) (lines_of (bytes ++ rest)) ≡ outcome
+        → header_in plans (room_of longer longest_input) (lines_of (bytes ++ rest)) ≡ outcome
 
   -- they are a whole header
   pub record HeaderWhole (old new : Option (List ℕ)) (x : HeaderRead Plan) : Type 0 where
@@ -60,10 +60,10 @@ module _ {Reader Plan Premise : Type 0} (plans : PlanPart Reader Plan Premise) w
   pub record HeaderTooLong (old new : Option (List ℕ)) : Type 0 where
     pub bytes : List ℕ
     pub read : Consumes old new bytes
-    pub past : 2 ^ 20 < length bytes
+    pub past : longest_input < length bytes
     pub at_once : AllButLast HeaderPending bytes
     pub decides : (rest : List ℕ)
-        → header_in plans (room_of true (2 ^ 20)) (lines_of (bytes ++ rest)) ≡ Err None
+        → header_in plans (room_of true longest_input) (lines_of (bytes ++ rest)) ≡ Err None
 
   -- they do not show what decides it
   pub record HeaderLost (old new : Option (List ℕ)) : Type 0 where

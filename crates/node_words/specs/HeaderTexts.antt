@@ -1,7 +1,7 @@
 -- The text of a header of a plan, which is read back.
-use Rattle.std.specs.Prelude.{◌≡◌, ℕ, ◌+◌, ◌^◌, ◌<◌, List, ◌++◌, Bool, Ok}
+use Rattle.std.specs.Prelude.{◌≡◌, ℕ, ◌+◌, ◌<◌, List, ◌++◌, Bool, Ok}
 use Rattle.texts.specs.Lines.{lines_of}
-use Rattle.texts.specs.Limits.{room_of, behind_lines}
+use Rattle.texts.specs.Limits.{room_of, behind_lines, longest_input}
 use Rattle.sync_types.specs.States.{State}
 use Rattle.construction.specs.Plans.{Plan, plan_nodes, plan_depth}
 use Rattle.construction.specs.Runs.{IsState}
@@ -29,6 +29,6 @@ header_stated plan v s = stated_header plan_part plan_writing plan v s
 abbrev pub HeaderTextIsRead : Type 0
 HeaderTextIsRead = (plan : Plan) → IsAccepted plan → (v : ℕ) → v < plan_nodes plan → (s : State)
     → IsState plan v s → (longer : Bool) (rest : List ℕ)
-    → (header_in (room_of longer (2 ^ 20)) (lines_of (header_text plan v s ++ rest))
+    → (header_in (room_of longer longest_input) (lines_of (header_text plan v s ++ rest))
     ≡ Ok (header_stated plan v s))
     × (behind_lines (plan_depth plan + 7) (header_text plan v s ++ rest) ≡ rest)

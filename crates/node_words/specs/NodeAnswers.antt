@@ -1,8 +1,8 @@
 -- What a node makes of an input: a header, and after it packets.
-use Rattle.std.specs.Prelude.{ℕ, ◌+◌, ◌^◌, ◌≤◌, List, [], length, Option, Some, None, Result, Ok}
+use Rattle.std.specs.Prelude.{ℕ, ◌+◌, ◌≤◌, List, [], length, Option, Some, None, Result, Ok}
 use Rattle.std.specs.Prelude.{Err}
 use Rattle.texts.specs.Lines.{lines_of, whole_lines}
-use Rattle.texts.specs.Limits.{room_in, behind_lines}
+use Rattle.texts.specs.Limits.{room_in, behind_lines, longest_input}
 use Rattle.node_words.specs.declared.headers.HeaderRefusal.{HeaderRefusal}
 use Rattle.node_words.specs.HeaderParts.{HeaderOf, header_in}
 use Rattle.node_words.specs.FedHeaders.{HeaderPending}
@@ -67,12 +67,12 @@ module _ {Reader Plan Premise : Type 0} (words : Words Reader Plan Premise) wher
   -- the header has at most 2^20 bytes; what follows it has no such limit
   abbrev pub node_outcome : List ℕ → Outcome Premise
   node_outcome input =
-      behind_header input (header_in words.part (room_in (2 ^ 20) input) (lines_of input))
+      behind_header input (header_in words.part (room_in longest_input input) (lines_of input))
 
   -- these bytes are a whole header, which is not too long, and none of the bytes after it is of a
   -- packet too many
   pub record PacketsPending (seen : List ℕ) (h : HeaderOf Plan) : Type 0 where
-    pub header : length seen ≤ 2 ^ 20 + length (behind_lines h.lines seen)
+    pub header : length seen ≤ longest_input + length (behind_lines h.lines seen)
     pub packets : IsWithin (packets_for h (behind_lines h.lines seen)).ending
 
   -- Bytes that do not show what decides an input: they do not show what decides its header, or do

@@ -1,9 +1,10 @@
 -- That a skipped line changes nothing of what a header is read as, nor of what its node answers.
-use Rattle.std.specs.Prelude.{◌≡◌, ◌≢◌, ℕ, ◌+◌, ◌^◌, ◌<◌, ◌≤◌, List, ◌∷◌, ◌++◌, length, All}
+use Rattle.std.specs.Prelude.{◌≡◌, ◌≢◌, ℕ, ◌+◌, ◌<◌, ◌≤◌, List, ◌∷◌, ◌++◌, length, All}
 use Rattle.std.specs.Prelude.{true, nat_le, if◌then◌else◌, Option, Some, None, Result, Ok, Err}
 use Rattle.texts.specs.Lines.{is_one_line}
 use Rattle.texts.specs.Words.{text_of}
 use Rattle.texts.specs.Parts.{is_skipped}
+use Rattle.texts.specs.Limits.{longest_input}
 use Rattle.node_words.specs.declared.headers.HeaderRefusal.{HeaderRefusal}
 use Rattle.node_words.specs.declared.headers.HeaderRefusal.TheVariants as refusal
 use Rattle.node_words.specs.HeaderParts.{HeaderOf}
@@ -57,4 +58,4 @@ module _ {Reader Plan Premise : Type 0} (words : Words Reader Plan Premise) wher
         → is_skipped line ≡ true → length line ≤ 4096
         → IsShort (text_of before ++ rest) → IsShort (with_line before line rest)
         → IsUnseen before line rest
-    pub short : (input : List ℕ) → length input ≤ 2 ^ 20 → IsShort input
+    pub short : (input : List ℕ) → length input ≤ longest_input → IsShort input

@@ -1,8 +1,8 @@
 -- The text of a header of any construction.
-use Rattle.std.specs.Prelude.{◌≡◌, ℕ, ◌^◌, ◌<◌, List, [], ◌∷◌, ◌++◌, Bool, Ok, codes, decimal}
+use Rattle.std.specs.Prelude.{◌≡◌, ℕ, ◌<◌, List, [], ◌∷◌, ◌++◌, Bool, Ok, codes, decimal}
 use Rattle.std.specs.List.{concat}
 use Rattle.texts.specs.Lines.{lines_of}
-use Rattle.texts.specs.Limits.{room_of, behind_lines}
+use Rattle.texts.specs.Limits.{room_of, behind_lines, longest_input}
 use Rattle.sync_types.specs.States.{State}
 use Rattle.state_codec.specs.Shapes.{Shape, fields_at, shape_nodes}
 use Rattle.state_codec.specs.Ranges.{InRange}
@@ -43,6 +43,6 @@ module _ {Reader Plan Premise : Type 0} (plans : PlanPart Reader Plan Premise)
   AreReadBack Accepted = (plan : Plan) → Accepted plan
       → (v : ℕ) → v < shape_nodes (plans.shape plan)
       → (s : State) → InRange (fields_at (plans.shape plan) v) s → (longer : Bool) (rest : List ℕ)
-      → (header_in plans (room_of longer (2 ^ 20)) (lines_of (text_of_header plan v s ++ rest))
+      → (header_in plans (room_of longer longest_input) (lines_of (text_of_header plan v s ++ rest))
       ≡ Ok (stated_header plan v s))
       × (behind_lines (writing.lines plan) (text_of_header plan v s ++ rest) ≡ rest)

@@ -17,9 +17,10 @@ use std::alloc::Global;
 use std::error::Error;
 use std::fmt::{self, Debug, Display, Formatter, Write};
 use sync_types::{NoMemory, Premise, Rule};
+use texts::LONGEST_INPUT;
 
 /// How many bytes a header may have.
-const LONGEST_HEADER: u64 = 1 << 20;
+const LONGEST_HEADER: u64 = LONGEST_INPUT as u64;
 
 /// The line of a header that is refused, and why. Lines are counted from 1.
 #[derive(Clone, Copy, Debug, PartialEq, Eq)]

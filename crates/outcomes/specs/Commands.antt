@@ -4,6 +4,7 @@ use Rattle.std.specs.Prelude.{if◌then◌else◌, codes}
 use Rattle.std.specs.Option.{option_map}
 use Rattle.std.specs.Str.{bytes_eq}
 use Rattle.texts.specs.Numbers.{number_of}
+use Rattle.texts.specs.Limits.{longest_input}
 use Rattle.run_checker.specs.Checks.{Pending}
 use Rattle.outcomes.specs.declared.commands.Command.{Command}
 use Rattle.outcomes.specs.declared.commands.Command.TheVariants as command
@@ -59,7 +60,7 @@ command_of (word ∷ other ∷ third ∷ words) = None
 -- what the program makes of an input
 abbrev pub defined : Option Command → List ℕ → Outcome
 defined None input = outcome_of (Err refusal.Usage)
-defined (Some (command.Batch b)) input = of_whole (2 ^ 20) (answer_of b) input
+defined (Some (command.Batch b)) input = of_whole longest_input (answer_of b) input
 defined (Some command.Check) input = check_outcome input
 defined (Some command.Node) input = node_outcome input
 defined (Some (command.Demo seed)) input = outcome_of (answer_of batch.Run (demo_text seed))
@@ -81,7 +82,7 @@ manner (Some (command.Demo seed)) = nothing
 -- Bytes that do not show what decides: more may follow, on which the outcome depends. None of them
 -- is after the limit, and a command that reads as it goes has not come to its answer.
 abbrev pub IsPending : Option Command → (seen : List ℕ) → Type 0
-IsPending (Some (command.Batch b)) seen = length seen ≤ 2 ^ 20
+IsPending (Some (command.Batch b)) seen = length seen ≤ longest_input
 IsPending (Some command.Check) seen = Pending (2 ^ 44) seen
 IsPending (Some command.Node) seen = IsNodePending seen
 IsPending other seen = Unit {0}

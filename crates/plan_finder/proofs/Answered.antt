@@ -135,8 +135,3 @@ module _ (most : ℕ) (some : 1 ≤ most) (pots : List Pot) (are : AreLeastCosts
         All-weaker (IsLeastCost most) (KeepsBound f (bound_in plan)) (keeps f c best plan is built)
         pots are.costs;
   }
-
-pub built_from : (most f : ℕ) (best : Option Best) → IsBestOf (HasFaults most f (most + 1)) best
-    → IfSome best (λ best. IsValidBest best × IsPath most (levels_in best))
-built_from most f None is = tt
-built_from most f (Some best) is = (is.kept, is.member.path)

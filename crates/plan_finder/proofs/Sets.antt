@@ -59,11 +59,6 @@ module _ (most f n : ℕ) where
       together (HasFaults most f n) (Reaches most n f) (HasFaults most f (n + 1)) faults_left
       faults_right faults_parts
 
-pub kept_if : (set : List Level → Type 0) (cell : Option Best) → IsBestOf set cell
-    → IfSome cell IsValidBest
-kept_if set None is = tt
-kept_if set (Some best) is = is.kept
-
 -- a cell
 pub cell_is : (most width n f : ℕ) (cells : List (Option Best)) → AreBest most width cells
     → f < width
@@ -94,17 +89,6 @@ path_cost most (level ∷ below) (path, spares, step) =
     let three : 3 * nodes_of below
     ≤ level.blocks * nodes_of below = mul-le-mul_right (nodes_of below) step.least_blocks in
     omega (arith, path_cost most below path, three, step.most_cost, path_sized most below path)
-
-pub over_step : (most n f k g : ℕ) (levels : List Level) → AreOver most n f k g levels
-    → IsStep most n f k g
-over_step most n f k g [] are = absurd are
-over_step most n f k g (level ∷ below) (reaches, blocks, faults, spares, step) = step
-
-pub over_none : (most n f k g : ℕ) → ((levels : List Level) → ¬ Reaches most n f levels)
-    → (levels : List Level) → ¬ AreOver most n f k g levels
-over_none most n f k g none [] are = are
-over_none most n f k g none (level ∷ below) (reaches, blocks, faults, spares, step) =
-    none below reaches
 
 mul_same : (k a b : ℕ) → 0 < k → k * a ≡ k * b → a ≡ b
 mul_same k a b some e =

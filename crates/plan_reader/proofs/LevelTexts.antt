@@ -6,8 +6,7 @@ use Rattle.std.specs.List.{slice_get, flat_map}
 use Rattle.std.proofs.lemmas.List.{take_all, map-append, length-map, length-reverse, get_or-map}
 use Rattle.std.proofs.lemmas.Grind.{reverse_onto}
 use Rattle.std.proofs.lemmas.Option.{get_or_from_slice_get, slice_get_within}
-use Rattle.texts.specs.Growth.{SinkState, Wrote, Cut}
-use Rattle.texts.proofs.Growth.{wrote_at, cut_at}
+use Rattle.texts.specs.Growth.{SinkState}
 use Rattle.edge_io.specs.Writing.{Writes}
 use Rattle.edge_io.specs.declared.writer.Writer.{Writer}
 use Rattle.edge_io.proofs.Writing.{writes_at, writes_is}
@@ -45,28 +44,7 @@ module _ (text : Level → List ℕ) (plan : Plan) (i : ℕ) (nums : LevelNums)
       ∙ get_or-map level_of (level_numbers plan) i nums (level_of nums) inside
       ∙ ap level_of (get_or_from_slice_get (level_numbers plan) i nums nums at)
 
-  -- one more is written
-  pub wrote_level : (s t u : SinkState) → Wrote (first_texts text plan i) s t
-      → Wrote (text (level_of nums)) t u → Wrote (first_texts text plan (i + 1)) s u
-  wrote_level s t u before one =
-      wrote_at text (reverse plan.levels) i (level_of nums) s t u within before (rw here one)
-
-  -- one is cut
-  pub cut_level : (s t u : SinkState) → Wrote (first_texts text plan i) s t
-      → Cut (text (level_of nums)) t u → Cut (flat_map text (reverse plan.levels)) s u
-  cut_level s t u before one =
-      cut_at text (reverse plan.levels) i (level_of nums) s t u within before (rw here one)
-
--- all are written
-pub wrote_levels : (text : Level → List ℕ) (plan : Plan) (i : ℕ) (s t : SinkState)
-    → plan_depth plan ≤ i
-    → Wrote (first_texts text plan i) s t → Wrote (flat_map text (reverse plan.levels)) s t
-wrote_levels text plan i s t all wrote =
-    let most : length (reverse plan.levels) ≤ i = omega (arith, length-reverse plan.levels) in
-    rw (← take_all i (reverse plan.levels) most) wrote
-
--- ---- the same by a writer
-
+-- one more is written
 pub writes_level : {K : Type 0} {told : K → SinkState} {x y z : Writer K}
     (text : Level → List ℕ) (plan : Plan) (i : ℕ) (nums : LevelNums)
     → slice_get (level_numbers plan) i ≡ Some nums → Writes told (first_texts text plan i) x y
@@ -75,6 +53,7 @@ writes_level text plan i nums at before one =
     writes_at text (reverse plan.levels) i (level_of nums) (within text plan i nums at) before
     (rw (here text plan i nums at) one)
 
+-- all are written
 pub writes_levels : {K : Type 0} {told : K → SinkState} {x y : Writer K}
     (text : Level → List ℕ) (plan : Plan) (i : ℕ) → plan_depth plan ≤ i
     → Writes told (first_texts text plan i) x y

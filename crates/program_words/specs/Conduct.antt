@@ -1,8 +1,9 @@
 -- What a program did to its source and its sink for what words ask for, by how it ended.
-use Rattle.std.specs.Prelude.{◌≡◌, ℕ, ◌≤◌, ◌^◌, List, length, Option, Result, Ok, Err}
+use Rattle.std.specs.Prelude.{◌≡◌, ℕ, ◌≤◌, List, length, Option, Result, Ok, Err}
 use Rattle.std.specs.Io.KnownBytes.{Consumes, IsAtEnd}
 use Rattle.texts.specs.Causes.{Counted}
 use Rattle.texts.specs.Growth.{SinkState, Wrote, Cut}
+use Rattle.texts.specs.Limits.{longest_input}
 use Rattle.edge_io.specs.Reading.{LosesWithin, LosesMore}
 use Rattle.program_words.specs.declared.asked.Asked.{Asked}
 use Rattle.program_words.specs.declared.asked.Asked.TheVariants as asked
@@ -43,7 +44,7 @@ pub record IsRead (left left' : Option (List ℕ)) (before now : ℕ) (holds : L
   pub input : List ℕ
   pub read : Consumes left left' input
   pub end : IsAtEnd left'
-  pub short : length input ≤ 2 ^ 20
+  pub short : length input ≤ longest_input
   pub still : now ≡ before
   pub done : holds input
 
@@ -56,11 +57,11 @@ abbrev pub DoesWhole : {T R : Type 0}
     → (left left' : Option (List ℕ)) (before now : ℕ) (old new : SinkState) → Type 0
 DoesWhole Answers (Err error.Usage) left left' before now old new = ⊥
 DoesWhole Answers (Err error.ReadFault) left left' before now old new =
-    LosesWithin (2 ^ 20) left left' × Counted before now × (new ≡ old)
+    LosesWithin longest_input left left' × Counted before now × (new ≡ old)
 DoesWhole Answers (Err error.TooLong) left left' before now old new =
-    LosesMore (2 ^ 20) left left' × (now ≡ before) × (new ≡ old)
+    LosesMore longest_input left left' × (now ≡ before) × (new ≡ old)
 DoesWhole Answers (Err error.NoMemory) left left' before now old new =
-    LosesWithin (2 ^ 20) left left' × (now ≡ before) × (new ≡ old)
+    LosesWithin longest_input left left' × (now ≡ before) × (new ≡ old)
 DoesWhole Answers result left left' before now old new =
     IsRead left left' before now (λ input. Answers input result old new)
 

@@ -10,9 +10,6 @@ use std::alloc::AllocError;
 use std::process::ExitCode;
 use sync_types::{NoMemory, Status};
 
-/// How many bytes an input may have that is read as a whole.
-pub const LONGEST_INPUT: usize = 1 << 20;
-
 /// The line of an input that is longer.
 pub const TOO_LONG: &[u8] = b"the input has more than 1048576 bytes\n";
 

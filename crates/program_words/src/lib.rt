@@ -10,5 +10,5 @@ mod errors;
 mod process;
 
 pub use asked::{Asked, asked_by};
-pub use errors::{LONGEST_INPUT, ProgramError, Reason, TOO_LONG, put_error};
+pub use errors::{ProgramError, Reason, TOO_LONG, put_error};
 pub use process::{arguments, end, exit_code, words};

@@ -1,5 +1,5 @@
 -- A call that ends well has read a value and written its text, of which the promise is kept.
-use Rattle.std.proofs.Common.{◌≡◌, ℕ, ◌^◌, Bool, true, false, cond, ltb, List, length, Option, Some}
+use Rattle.std.proofs.Common.{◌≡◌, ℕ, Bool, true, false, cond, ltb, List, length, Option, Some}
 use Rattle.std.proofs.Common.{None, Result, Ok, Err, refl, subst}
 use Rattle.std.specs.Prelude.{IfOk, codes}
 use Rattle.sync_types.specs.declared.answers.Premise.{Premise}
@@ -7,6 +7,7 @@ use Rattle.sync_types.specs.declared.status.Status.{Status}
 use Rattle.sync_types.specs.declared.status.Status.TheVariants as status
 use Rattle.texts.specs.Parts.{At}
 use Rattle.texts.specs.Growth.{SinkState}
+use Rattle.texts.specs.Limits.{longest_input}
 use Rattle.construction.specs.Plans.{Plan}
 use Rattle.plan_reader.specs.Tables.{table_text}
 use Rattle.plan_reader.specs.PlanTexts.{plan_text}
@@ -138,7 +139,8 @@ module _ (stabilise : AcceptedStabilise) (promise : PromiseIsKept) (check : Chec
   by_word : (c : Command) → HasOutcome (defined (Some c) input) status.Ok old new
       → PrintedBy c input old new
   by_word (command.Batch b) h =
-      by_batch b (short (ltb (2 ^ 20) (length input)) (outcome_of (answer_of b input)) old new h)
+      by_batch b
+      (short (ltb longest_input (length input)) (outcome_of (answer_of b input)) old new h)
   by_word command.Check h = λ few.
       let judged = check.inputs input few in
       check_by input old new judged.answer judged.says

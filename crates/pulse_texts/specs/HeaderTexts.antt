@@ -1,7 +1,7 @@
 -- The text of a header of a node of a pulse plan, which is read back.
-use Rattle.std.specs.Prelude.{◌≡◌, ℕ, ◌^◌, ◌<◌, List, ◌++◌, Bool, Ok}
+use Rattle.std.specs.Prelude.{◌≡◌, ℕ, ◌<◌, List, ◌++◌, Bool, Ok}
 use Rattle.texts.specs.Lines.{lines_of}
-use Rattle.texts.specs.Limits.{room_of, behind_lines}
+use Rattle.texts.specs.Limits.{room_of, behind_lines, longest_input}
 use Rattle.sync_types.specs.States.{State}
 use Rattle.machines.specs.Machines.{IsState}
 use Rattle.node_words.specs.HeaderParts.{HeaderOf, header_in}
@@ -27,6 +27,7 @@ header_stated plan v s = stated_header pulses_part pulses_writing plan v s
 abbrev pub PulseHeaderTextIsRead : Type 0
 PulseHeaderTextIsRead = (plan : PulseNumbers) → IsAccepted plan → (v : ℕ) → v < plan.nodes
     → (s : State) → IsState (machine_in plan) v s → (longer : Bool) (rest : List ℕ)
-    → (header_in pulses_part (room_of longer (2 ^ 20)) (lines_of (header_text plan v s ++ rest))
+    → (header_in pulses_part (room_of longer longest_input)
+    (lines_of (header_text plan v s ++ rest))
     ≡ Ok (header_stated plan v s))
     × (behind_lines 7 (header_text plan v s ++ rest) ≡ rest)

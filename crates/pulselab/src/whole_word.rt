@@ -10,8 +10,9 @@ use crate::reasons::LabError;
 use crate::requests::Whole;
 use crate::run_word::play_script;
 use edge_io::{Sink, Source, read_all};
-use program_words::{LONGEST_INPUT, ProgramError};
+use program_words::ProgramError;
 use std::alloc::Global;
+use texts::LONGEST_INPUT;
 
 /// Answers an input.
 fn answer<K: Sink>(alloc: Global, word: Whole, input: &[u8], sink: &mut K) -> Result<(), LabError>

@@ -2,6 +2,7 @@
 
 ghost use Rattle.std.specs.Prelude.{◌≡◌, ◌≤◌, ◌^◌, ◌+◌, Ok, length, IfErr, IfOk, IsErrOf, OnOk};
 ghost use Rattle.texts.specs.Lines.{lines_of};
+ghost use Rattle.texts.specs.Limits.{longest_input};
 ghost use Rattle.plan_reader.specs.PlanPart.{found_in, plan_of};
 ghost use Rattle.program_words.specs.Conduct.{FailsAs};
 ghost use Rattle.states.specs.Conduct.{FailsToTurn, IsOfLine, IsShaped, Turns, TurnsInput};
@@ -15,9 +16,10 @@ use crate::turning::turn;
 use edge_io::{Lines, Sink, Source, is_skipped, put_all, read_all};
 use plan_numbers::Plan;
 use plan_reader::{PlanError, read_plan};
-use program_words::{LONGEST_INPUT, ProgramError};
+use program_words::ProgramError;
 use state_codec::StateShape;
 use std::alloc::Global;
+use texts::LONGEST_INPUT;
 
 /// Turns the lines after a plan, from the line of this number on. So many of those that count
 /// stand before the first state.
@@ -83,7 +85,7 @@ fn read_values(text: &[u8], first: u64) -> Result<Layer, StateError>
 
 /// The other forms of all states of an input.
 pub fn turned(alloc: Global, input: &[u8]) -> Result<String, StateError>
-    requires { length input.now ≤ 2 ^ 20 }
+    requires { length input.now ≤ longest_input }
     ensures shaped { OnOk result (IsShaped (layer_of input.now)) }
     ensures fails { IfErr result (FailsToTurn (layer_of input.now)) }
 {
@@ -96,7 +98,7 @@ pub fn turned(alloc: Global, input: &[u8]) -> Result<String, StateError>
 
 /// Writes the other forms of all states of an input.
 fn turn_text<K: Sink>(alloc: Global, input: &[u8], sink: &mut K) -> Result<(), StateError>
-    requires { length input.now ≤ 2 ^ 20 }
+    requires { length input.now ≤ longest_input }
     ensures { Turns (layer_of input.now) result (K.told sink.old) (K.told sink.new) }
 {
     let text = turned(alloc, input)?;

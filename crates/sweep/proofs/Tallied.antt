@@ -84,14 +84,6 @@ module _ (script : Script) where
         ∙ omega (arith, long, some);
   }
 
--- a first locked configuration of an era has its place there
-pub within_room : (runs : EraRuns) (first end : ℕ) (locked : Option ℕ) → runs.first ≡ first
-    → runs.first + length runs.locked ≡ end
-    → IfSome locked (λ t. (first ≤ t) × (t < end)) → IsWithin runs locked
-within_room runs first end None is long inside = tt
-within_room runs first end (Some t) is long inside =
-    (omega (arith, inside.0, is), omega (arith, inside.1, long))
-
 module _ (script : Script) (tally : List EraRuns) (j : ℕ) (old now : EraRuns)
     (here : j < length tally) (is : old ≡ get_or tally j no_runs) where
   placed : (k : ℕ) (P : EraRuns → Type 0) → (k ≡ j → P now)
@@ -121,12 +113,6 @@ module _ (script : Script) (tally : List EraRuns) (j : ℕ) (old now : EraRuns)
         (λ e. room.end k among);
   }
 
--- with another key there is the same room
-pub room_keyed : (script : Script) (seed : ℕ) (tally : List EraRuns) → HasRoom script tally
-    → HasRoom (keyed script seed) tally
-room_keyed script seed tally room =
-    record { size = room.size; first = room.first; end = room.end }
-
 pub room_unkeyed : (script : Script) (seed : ℕ) (tally : List EraRuns)
     → HasRoom (keyed script seed) tally → HasRoom script tally
 room_unkeyed script seed tally room =
@@ -149,22 +135,6 @@ Notes old now seed locked = (lock : ℕ → Option ℕ) (first size : ℕ) (seed
 
 module _ (locks : Locks) (script : Script) (seeds : List ℕ) (seed : ℕ)
     (few : length seeds + 1 < 2 ^ 64) where
-  pub none_counted : (tally : List EraRuns) → AreTallied locks script seeds tally
-      → CountedBelow locks script seeds seed 0 tally
-  none_counted tally are = record {
-    size = are.size;
-    done = λ k lt among. absurd (omega (arith, lt));
-    rest = λ k le among. are.each k among;
-  }
-
-  pub all_counted : (j : ℕ) (tally : List EraRuns) → length script.eras < j
-      → CountedBelow locks script seeds seed j tally
-      → AreTallied locks script (seeds ++ seed ∷ []) tally
-  all_counted j tally past are = record {
-    size = are.size;
-    each = λ k among. are.done k (omega (arith, among, past)) among;
-  }
-
   pub one_counted : (j : ℕ) (tally : List EraRuns) (old now : EraRuns) (locked : Option ℕ)
       → j < length tally → old ≡ get_or tally j no_runs → Notes old now seed locked
       → lock_with locks script j seed ≡ locked

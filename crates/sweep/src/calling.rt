@@ -1,6 +1,7 @@
 //! Reads an input, and writes its sweep.
 
-ghost use Rattle.std.specs.Prelude.{◌≡◌, ◌≤◌, ◌^◌, length, IfErr, IfOk, IsErrOf};
+ghost use Rattle.std.specs.Prelude.{◌≡◌, ◌≤◌, length, IfErr, IfOk, IsErrOf};
+ghost use Rattle.texts.specs.Limits.{longest_input};
 ghost use Rattle.answers.specs.ScriptedRuns.{IsScriptedRun};
 ghost use Rattle.outcomes.specs.Inputs.{scripted_of};
 ghost use Rattle.program_words.specs.Conduct.{Answers, FailsAs, and_then};
@@ -24,12 +25,13 @@ use counter_core::NoOverlay;
 use edge_io::{Sink, Source, read_all};
 use machine_runner::Runner;
 use plan_numbers::Plan;
-use program_words::{LONGEST_INPUT, ProgramError};
+use program_words::ProgramError;
 use pulse_plan::PulseMachine;
 use pulse_runs::PlayError;
 use round_runner::Runner as LevelsRunner;
 use state_codec::StateShape;
 use std::alloc::Global;
+use texts::LONGEST_INPUT;
 
 /// Writes the sweep of a runner's script, if it says noise.
 #[tactic(auto, using(crate::proofs::Said::says_nothing))]
@@ -54,7 +56,7 @@ fn sweep_noise<R: Sweepable, K: Sink, E: Sink>(
 
 /// The runner of the script of an input on its plan.
 fn read_levels(alloc: Global, input: &[u8]) -> Result<(Plan, LevelsRunner<NoOverlay>), SweepError>
-    requires { length input.now ≤ 2 ^ 20 }
+    requires { length input.now ≤ longest_input }
     ensures read { IfOk result (IsScriptedRun input.now) }
     ensures fails { IfErr result (FailsAs (levels_read (scripted_of input.now))) }
 {
@@ -78,7 +80,7 @@ fn sweep_on_plan<K: Sink, E: Sink>(
     progress: &mut Progress<E>,
 ) -> Result<(), SweepError>
     requires numbers { AreFew numbers }
-    requires short { length input.now ≤ 2 ^ 20 }
+    requires short { length input.now ≤ longest_input }
     ensures answers { Answers
         (and_then (swept_on_plan (scripted_of input.now)) (noise_sweep numbers)) result
         (K.told sink.old) (K.told sink.new) }
@@ -117,7 +119,7 @@ fn sweep_on_pulses<K: Sink, E: Sink>(
     progress: &mut Progress<E>,
 ) -> Result<(), SweepError>
     requires numbers { AreFew numbers }
-    requires short { length input.now ≤ 2 ^ 20 }
+    requires short { length input.now ≤ longest_input }
     ensures answers { Answers
         (and_then (swept_on_pulses (pulses.scripted_of input.now)) (noise_sweep numbers)) result
         (K.told sink.old) (K.told sink.new) }
@@ -138,7 +140,7 @@ fn sweep_text<K: Sink, E: Sink>(
     progress: &mut Progress<E>,
 ) -> Result<(), SweepError>
     requires numbers { AreFew numbers }
-    requires short { length input.now ≤ 2 ^ 20 }
+    requires short { length input.now ≤ longest_input }
     ensures answers { Answers (sweep_of numbers input.now) result
         (K.told sink.old) (K.told sink.new) }
     ensures progress { Says progress.old.name progress.old.is_on numbers.count

@@ -1,8 +1,8 @@
 -- One write after another.
 use Rattle.std.proofs.Common.{◌≡◌, ℕ, suc, ◌+◌, ◌<◌, ◌≤◌, length, take, drop, get_or, List, [], ◌∷◌}
 use Rattle.std.proofs.Common.{◌++◌, Option, Some, None, Result, Ok, Err, refl, sym, ap, ◌∙◌, subst}
-use Rattle.std.proofs.Common.{append_assoc, length-append, length-drop, arith, rules}
-use Rattle.std.specs.Prelude.{OnOk, IsOk}
+use Rattle.std.proofs.Common.{append_assoc, length-append, length-drop, arith}
+use Rattle.std.specs.Prelude.{OnOk}
 use Rattle.std.specs.Result.{IsErrAnd}
 use Rattle.std.proofs.lemmas.Result.{err_from_is_err_and}
 use Rattle.std.specs.List.{flat_map}
@@ -12,7 +12,6 @@ use Rattle.std.proofs.lemmas.List.Concat.{flat_map-append}
 use Rattle.std.specs.Io.KnownBytes.{Appends, Keeps, append_known}
 use Rattle.texts.specs.Causes.{Counted}
 use Rattle.texts.specs.Growth.{SinkState, gathering, Grows, EachGrows, Follows, AppendsFront}
-use Rattle.texts.specs.Growth.{last_of}
 use Rattle.texts.specs.Growth.{arrived, IsMissed, Wrote, Cut, Puts}
 
 -- known bytes grow by nothing
@@ -180,23 +179,6 @@ pub puts_exit : {T E : Type 0} (Q : E → Type 0) (r : Result T E) (s t : SinkSt
     → IsErrAnd r Q → Cut a s t → Puts r a s t
 puts_exit Q r s t a h cut = let p = err_from_is_err_and r h in rw p.1 cut
 
--- an empty text has no prefix but itself
-nothing_before : (a b : List ℕ) → [] ≡ a ++ b → a ≡ []
-nothing_before [] b e = refl
-nothing_before (x ∷ a) b e = let size : 0 ≡ suc (length (a ++ b)) = ap length e in
-    absurd (omega arith)
-
--- what grows by nothing is kept
-keeps_is : (s t : Option (List ℕ)) (front : List ℕ) → front ≡ [] → Appends s t front → Keeps s t
-keeps_is None t front e p = tt
-keeps_is (Some xs) None front e p = absurd p
-keeps_is (Some xs) (Some ys) front e p = p ∙ ap (λ (l : List ℕ). xs ++ l) e ∙ append-nil xs
-
--- if no text was to be written, nothing was
-pub cut_nothing : (s t : SinkState) → Cut [] s t → Keeps s.taken t.taken
-cut_nothing s t p = keeps_is s.taken t.taken p.front.front
-    (nothing_before p.front.front p.front.rest p.front.parts) p.front.bytes
-
 -- what is kept grows by nothing
 pub kept_is : (s t : Option (List ℕ)) → Keeps s t → Appends s t []
 kept_is None t p = tt
@@ -331,14 +313,6 @@ held_more name held more s = record {
       (follows_none s);
 }
 
--- a text was put and then no more
-pub puts_end : {T E : Type 0} (r : Result T E) (text : List ℕ) (s t u : SinkState) → Wrote text s t
-    → Puts r [] t u → Puts r text s u
-puts_end (Ok x) text s t u p q =
-    subst (λ (l : List ℕ). Wrote l s u) (append-nil text) (wrote_then s t u text [] p q)
-puts_end (Err e) text s t u p q =
-    subst (λ (l : List ℕ). Cut l s u) (append-nil text) (cut_then s t u text [] p q)
-
 abbrev head_of : List ℕ → ℕ
 head_of [] = 0
 head_of (x ∷ xs) = x
@@ -357,31 +331,3 @@ puts_lent told (Ok x) lent other held text s now final ends p none =
     rw (ends (sym (ap head_of p.follows.same))) (wrote_behind lent other text s (told now) q)
 puts_lent told (Err e) lent other held text s now final ends p none =
     rw (ends (sym (ap head_of p.follows.same))) (cut_behind lent other held text s (told now) p)
-
-short_by : (s t : Option (List ℕ)) (xs text front rest : List ℕ) → s ≡ Some xs
-    → length text ≡ length front + length rest → Appends s t front → IsMissed s t text
-    → 0 < length rest
-short_by None t xs text front rest is size bytes missed = absurd cc
-short_by (Some ys) None xs text front rest is size bytes missed = absurd bytes
-short_by (Some ys) (Some zs) xs text front rest is size bytes missed =
-    let grown : length zs ≡ length ys + length front = ap length bytes ∙ length-append ys front in
-    omega (arith, missed, grown, size)
-
--- a sink that tells its bytes, and passes none on, took less than all of a text that is cut
-pub cut_short : (s t : SinkState) (text xs : List ℕ) → s.taken ≡ Some xs → t.passed ≡ []
-    → (cut : Cut text s t) → 0 < length cut.front.rest
-cut_short s t text xs taken last cut =
-    short_by s.taken t.taken xs text cut.front.front cut.front.rest taken
-    (ap length cut.front.parts ∙ length-append cut.front.front cut.front.rest) cut.front.bytes
-    (subst (λ (l : List (Option (List ℕ))). IsMissed s.taken (last_of t.taken l) text) last
-    cut.missed)
-
--- a text that is certain to be taken is not cut
-pub never_cut : (s t : SinkState) (text : List ℕ) → length text < s.certain → Cut text s t → ⊥
-never_cut s t text short cut = omega (arith, cut.uncertain)
-
--- a call that writes a text that is certain to be taken answers Ok
-pub puts_whole : {T E : Type 0} (r : Result T E) (s t : SinkState) (text : List ℕ)
-    → length text < s.certain → Puts r text s t → IsOk r
-puts_whole (Ok x) s t text short puts = search rules
-puts_whole (Err e) s t text short puts = absurd (never_cut s t text short puts)

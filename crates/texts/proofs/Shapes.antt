@@ -29,18 +29,7 @@ pub numbers_short : (front : List ℕ) (end i : ℕ) → i < end
     → with_front front (numbers_of (end - i) []) ≡ None
 numbers_short front end i lt = let k : end - i ≡ suc (end - (i + 1)) = omega arith in rw k refl
 
--- a word is no number
-pub numbers_bad : (front : List ℕ) (end i : ℕ) (word : List ℕ) (words : List (List ℕ)) → i < end
-    → number_of word ≡ None → with_front front (numbers_of (end - i) (word ∷ words)) ≡ None
-numbers_bad front end i word words lt is = let k : end - i ≡ suc (end - (i + 1)) = omega arith in
-    rw (k, is) refl
-
 -- all numbers are read
 pub numbers_done : (front : List ℕ) (end i : ℕ) → end ≤ i
     → with_front front (numbers_of (end - i) []) ≡ Some front
 numbers_done front end i le = let k : end - i ≡ 0 = omega arith in rw k (ap Some (append-nil front))
-
--- a word too many
-pub numbers_long : (front : List ℕ) (end i : ℕ) (word : List ℕ) (words : List (List ℕ)) → end ≤ i
-    → with_front front (numbers_of (end - i) (word ∷ words)) ≡ None
-numbers_long front end i word words le = let k : end - i ≡ 0 = omega arith in rw k refl

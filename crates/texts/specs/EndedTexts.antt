@@ -40,7 +40,3 @@ module _ {S V R : Type 0} (step : S → List ℕ → Next S V R) (form : R) wher
   ended_text start limit longer text =
       then_alone text (part_from (with_limit (with_length step form)) (by form)
       (room_of longer limit, start) 0 1 (ended_lines longer text))
-
-  -- such a text under a limit
-  abbrev pub ended_text_in : S → (limit : ℕ) → List ℕ → Result V (At (Limited R))
-  ended_text_in start limit text = ended_text start limit (nat_lt limit (length text)) text

@@ -1,7 +1,12 @@
 -- A text that is read line by line, and of which only so many bytes may be read.
-use Rattle.std.specs.Prelude.{ℕ, zero, suc, ◌+◌, ◌-◌, min, List, [], ◌∷◌, length, Bool, true, false}
+use Rattle.std.specs.Prelude.{ℕ, zero, suc, ◌+◌, ◌-◌, ◌^◌, min, List, [], ◌∷◌, length, Bool, true}
+use Rattle.std.specs.Prelude.{false}
 use Rattle.std.specs.Prelude.{nat_le, nat_lt, ◌==◌, if◌then◌else◌, Option, Some, None}
 use Rattle.texts.specs.Parts.{Next, goes, ends, refuses}
+
+-- how many bytes an input has at most, but for a run certificate and what draw reads
+abbrev pub longest_input : ℕ
+longest_input = 2 ^ 20
 
 -- how many bytes show what becomes of a line: all of it and its newline, or one more than a line
 -- may have

@@ -71,9 +71,6 @@ module _ (want : Want) (words : List (List ℕ)) (input : List ℕ) (plan : Plan
 
   -- ---- what its trace wants
 
-  pub to_trace : IsToTrace r
-  to_trace = record { at = is.plays.at; plays = is.records.plays }
-
   pub deep : r.script.shape.depth ≡ plan_depth plan
   deep = ap (λ (s : Shape). s.depth) is.records.shape
       ∙ (depth_of_shape r.plan ∙ ap plan_depth is.plan_is)

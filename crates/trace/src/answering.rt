@@ -1,6 +1,7 @@
 //! Answers an input: the script after its plan is played, and its trace is written.
 
-ghost use Rattle.std.specs.Prelude.{◌≡◌, ◌≤◌, ◌^◌, length, map, string_bytes};
+ghost use Rattle.std.specs.Prelude.{◌≡◌, ◌≤◌, length, map, string_bytes};
+ghost use Rattle.texts.specs.Limits.{longest_input};
 ghost use Rattle.program_words.specs.Conduct.{Answers};
 ghost use Rattle.trace.specs.Answers.{is_first, fails_at_first, trace_of};
 
@@ -50,7 +51,7 @@ pub fn write_trace<K: Sink>(
     sink: &mut K,
 ) -> Result<(), TraceError>
     requires order { want.first ≤ want.last }
-    requires short { length input.now ≤ 2 ^ 20 }
+    requires short { length input.now ≤ longest_input }
     ensures { Answers (trace_of want (map string_bytes words.now) input.now) result
         (K.told sink.old) (K.told sink.new) }
 {

@@ -7,8 +7,9 @@ use crate::answering::write_trace;
 use crate::reasons::TraceError;
 use crate::wants::Want;
 use edge_io::{Sink, Source, read_all};
-use program_words::{LONGEST_INPUT, ProgramError};
+use program_words::ProgramError;
 use std::alloc::Global;
+use texts::LONGEST_INPUT;
 
 /// Reads a plan and a script, plays the script, and writes of each wanted configuration what the
 /// nodes hold that the words name, or all if there is no word, and what they make of what they

@@ -1,6 +1,7 @@
 //! The trace of a plan of levels over blocks, and a script.
 
-ghost use Rattle.std.specs.Prelude.{◌≤◌, ◌^◌, length, map, string_bytes, IfErr, IfOk};
+ghost use Rattle.std.specs.Prelude.{◌≤◌, length, map, string_bytes, IfErr, IfOk};
+ghost use Rattle.texts.specs.Limits.{longest_input};
 ghost use Rattle.answers.specs.ScriptedRuns.{IsScriptedRun};
 ghost use Rattle.outcomes.specs.Inputs.{scripted_of};
 ghost use Rattle.program_words.specs.Conduct.{Answers, FailsAs};
@@ -21,7 +22,7 @@ use std::alloc::Global;
 
 /// The plan of an input, and the runner of its script on it.
 fn read_levels(alloc: Global, input: &[u8]) -> Result<(Plan, Runner<NoOverlay>), TraceError>
-    requires { length input.now ≤ 2 ^ 20 }
+    requires { length input.now ≤ longest_input }
     ensures read { IfOk result (IsScriptedRun input.now) }
     ensures fails { IfErr result (FailsAs (levels_read (scripted_of input.now))) }
 {
@@ -45,7 +46,7 @@ pub fn write_levels_trace<K: Sink>(
     sink: &mut K,
 ) -> Result<(), TraceError>
     requires order { want.first ≤ want.last }
-    requires short { length input.now ≤ 2 ^ 20 }
+    requires short { length input.now ≤ longest_input }
     ensures { Answers
         (levels_trace_or want (map string_bytes words.now) (scripted_of input.now)) result
         (K.told sink.old) (K.told sink.new) }

@@ -3,10 +3,8 @@
 
 use edge_io::{NullSink, PlainSource, StdSource, read_all};
 use std::alloc::Global;
+use texts::LONGEST_INPUT;
 use workbench::counterlab;
-
-/// How many bytes an input may have.
-const LONGEST_INPUT: usize = 1 << 20;
 
 /// Takes memory so many times and gives it back, whether it is refused or not.
 fn spend(alloc: Global, count: u64) {

@@ -14,13 +14,11 @@ use reference::pulse_groups::Group;
 use reference::pulse_texts::text_of;
 use reference::refusals::Stop;
 use std::alloc::{AllocError, Global};
+use texts::LONGEST_INPUT;
 
 /// How many faults plans tolerate whose scripts go on after the bound, and how many scripts these
 /// are, and how many with a part.
 const SCRIPTS: [(u64, u64, u64); 4] = [(1, 40, 20), (2, 10, 5), (3, 5, 3), (4, 3, 2)];
-
-/// How many bytes an input may have.
-const LONGEST_INPUT: usize = 1 << 20;
 
 /// How many inputs are tried that are near to a plan and a script.
 const INPUTS: u64 = 400;

@@ -1,9 +1,10 @@
 -- What a batch command did, which reads all of its input before it writes.
-use Rattle.std.proofs.Common.{◌≡◌, ℕ, ◌<◌, ◌≤◌, ◌^◌, Bool, cond, List, [], ◌++◌, length, Option}
+use Rattle.std.proofs.Common.{◌≡◌, ℕ, ◌<◌, ◌≤◌, Bool, cond, List, [], ◌++◌, length, Option}
 use Rattle.std.proofs.Common.{Some, None, Result, Ok, Err, refl, sym, ap, ◌∙◌, length-append, arith}
 use Rattle.std.proofs.lemmas.Bool.{lt-ltb, le-ltb}
 use Rattle.texts.specs.Causes.{Counted}
 use Rattle.texts.specs.Growth.{SinkState, Wrote, Cut}
+use Rattle.texts.specs.Limits.{longest_input}
 use Rattle.edge_io.specs.Reading.{LosesWithin, LosesMore}
 use Rattle.sync_types.specs.declared.status.Status.{Status}
 use Rattle.sync_types.specs.declared.status.Status.TheVariants as status
@@ -43,19 +44,19 @@ module _ (b : Batch) (left left' : Option (List ℕ)) (before now : ℕ) where
   Did s old new = Does (Some (command.Batch b)) s left left' before now old new
 
   -- the outcome of a long input, and of a short one
-  of_long : (input : List ℕ) → 2 ^ 20 < length input
+  of_long : (input : List ℕ) → longest_input < length input
       → defined (Some (command.Batch b)) input ≡ too_long
   of_long input long = ap (λ (b' : Bool). cond b' too_long (outcome_of (answer_of b input)))
-      (lt-ltb (2 ^ 20) (length input) long)
+      (lt-ltb longest_input (length input) long)
 
-  of_short : (input : List ℕ) → length input ≤ 2 ^ 20
+  of_short : (input : List ℕ) → length input ≤ longest_input
       → defined (Some (command.Batch b)) input ≡ outcome_of (answer_of b input)
   of_short input short = ap (λ (b' : Bool). cond b' too_long (outcome_of (answer_of b input)))
-      (le-ltb (2 ^ 20) (length input) short)
+      (le-ltb longest_input (length input) short)
 
   -- ---- the input was not read
 
-  pub lost : (sink : SinkState) → LosesWithin (2 ^ 20) left left' → Counted before now
+  pub lost : (sink : SinkState) → LosesWithin longest_input left left' → Counted before now
       → Did status.ReadFault sink sink
   lost sink h cause = record {
     seen = h.front;
@@ -65,10 +66,10 @@ module _ (b : Batch) (left left' : Option (List ℕ)) (before now : ℕ) where
     wrote = record { none = refl; same = refl };
   }
 
-  pub beyond : (sink : SinkState) → LosesMore (2 ^ 20) left left' → now ≡ before
+  pub beyond : (sink : SinkState) → LosesMore longest_input left left' → now ≡ before
       → Did status.TooLong sink sink
   beyond sink more still =
-      let h = beyond_limit (2 ^ 20) left left' more in
+      let h = beyond_limit longest_input left left' more in
       let is = of_long h.input h.long in
       record {
         input = h.input;
@@ -81,7 +82,7 @@ module _ (b : Batch) (left left' : Option (List ℕ)) (before now : ℕ) where
   -- ---- the input was read
 
   module _ (input : List ℕ) (read : ReadsAll left left' input) (still : now ≡ before)
-      (short : length input ≤ 2 ^ 20) (old new : SinkState) where
+      (short : length input ≤ longest_input) (old new : SinkState) where
     given : (s : Status) (r : Result (List ℕ) Refusal) → answer_of b input ≡ r
         → s ≡ (outcome_of r).status → Reads all_first s left left' input
         → Writes all_first s (outcome_of r).text old new
@@ -123,7 +124,7 @@ module _ (b : Batch) (left left' : Option (List ℕ)) (before now : ℕ) where
 
   -- by what became of a sink that tells what it took
   module _ {K : Type 0} (told : K → SinkState) (input : List ℕ) (read : ReadsAll left left' input)
-      (still : now ≡ before) (short : length input ≤ 2 ^ 20) (old new : K) where
+      (still : now ≡ before) (short : length input ≤ longest_input) (old new : K) where
     pub answered : (s : Status) → Ends told s (answer_of b input) old new
         → Did s (told old) (told new)
     answered = ends_by told (λ s. Did s (told old) (told new)) (answer_of b input) old new

@@ -8,9 +8,7 @@ use edge_io::{InputFault, Sink, Source, read_all};
 use outcomes::{Batch, Command};
 use std::alloc::Global;
 use sync_types::Status;
-
-/// How many bytes an input may have that is read whole before it is answered.
-const LONGEST_INPUT: usize = 1 << 20;
+use texts::LONGEST_INPUT;
 
 /// A batch command.
 pub fn batch<S: Source, K: Sink>(

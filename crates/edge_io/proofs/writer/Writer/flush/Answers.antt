@@ -4,10 +4,11 @@ use Rattle.edge_io.proofs.Held.{part_is, held_passed}
 use Rattle.edge_io.proofs.writer.Writer.flush.Goals as goal
 
 pub loop-self-init : goal.loop-self-init
-loop-self-init g c = record { same = refl; wrote = wrote_none _ }
+loop-self-init g c = record { still = refl; same = refl; wrote = wrote_none _ }
 
 pub loop-self-preserved : goal.loop-self-preserved
 loop-self-preserved g c = record {
+  still = c.loop-self.invariant.still;
   same = c.loop-self.invariant.same;
   wrote = held_passed _ c.loop-self.self.at c.loop-self.self.end c.in-Ok.count
       c.loop-self.self.buffer _ _ _ c.loop-self.self.within c.in-Ok.ensures.bound

@@ -5,6 +5,7 @@ use Rattle.edge_io.proofs.writer.Writer.flush.Given as goal
 
 abbrev pub invariant-loop-self : goal.invariant-loop-self
 invariant-loop-self g l = record {
+  still : l.self.failed ≡ l.fn.self.failed;
   same : l.self.sink.ghost_name ≡ l.fn.self.sink.ghost_name;
   wrote : Wrote [] (gathered_told g.K.Sink.told l.fn.self) (gathered_told g.K.Sink.told l.self);
 }
