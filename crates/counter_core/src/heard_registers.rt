@@ -102,17 +102,6 @@ impl<'a> HeardRegister<'a> {
         }
     }
 
-    /// Takes the values of all nodes, by place.
-    fn tally(&self, values: &mut Tally)
-        requires { length self.now.states ≤ values.old.capacity }
-        ensures { values.new ≡ record values.old { values = values_heard self.now } }
-    {
-        values.clear();
-        for place in 0..self.nodes {
-            values.add(self.at(place).a);
-        }
-    }
-
     /// The least finite value that more nodes have than may be faulty, None if there is none. So
     /// many have `own`: what all but the faulty ones have is the only such value.
     pub fn least(&self, own: Option<u64>, same: usize, values: &mut Tally) -> Option<u64>
@@ -125,7 +114,10 @@ impl<'a> HeardRegister<'a> {
         if own.is_some() && same > faults && same >= (self.nodes - self.faults) as usize {
             return own;
         }
-        self.tally(values);
+        values.clear();
+        for place in 0..self.nodes {
+            values.add(self.at(place).a);
+        }
         values.least_above(faults)
     }
 

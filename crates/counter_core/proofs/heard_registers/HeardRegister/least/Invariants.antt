@@ -1,6 +1,6 @@
 use Rattle.std.proofs.Common.{◌≡◌, take}
 use Rattle.counter_core.specs.HeardRegisters.{values_heard}
-use Rattle.counter_core.proofs.heard_registers.HeardRegister.tally.Given as goal
+use Rattle.counter_core.proofs.heard_registers.HeardRegister.least.Given as goal
 
 abbrev pub invariant-loop-place : goal.invariant-loop-place
 invariant-loop-place l = record {
