@@ -1,23 +1,18 @@
-ghost use Rattle.std.specs.Prelude.{◌≡◌, ◌+◌, ◌*◌, ◌/◌, ◌%◌, ◌≤◌, ◌<◌, take, length, All};
-ghost use Rattle.construction.specs.Votes.{block};
-ghost use Rattle.plan_numbers.specs.Numbers.{line, level_of};
+ghost use Rattle.std.specs.Prelude.{◌≡◌};
+ghost use Rattle.plan_numbers.specs.Numbers.{line};
 ghost use Rattle.plan_numbers.specs.Premises.{first_premise, unless};
-ghost use Rattle.counter_core.specs.Meanings.{written};
-ghost use Rattle.counter_core.specs.Working.{IsWorkFor, IsAsRoomy};
-ghost use Rattle.plan_laws.specs.Boosted.{inner_state, level_register, boosted, BoostedRange};
-ghost use Rattle.plan_laws.specs.Boosted.{StandsOn};
+ghost use Rattle.plan_laws.specs.Boosted.{boosted, BoostedRange, StandsOn};
 ghost use Rattle.plan_laws.proofs.BoostLaws.{boosted_sizes, boosted_stays_in_range};
 ghost use Rattle.plan_laws.proofs.BoostLaws.{boosted_zero_in_range};
 ghost use Rattle.plan_laws.proofs.FurtherRegisters.{boosted_ignores_further};
 ghost use Rattle.plan_laws.proofs.BoostSettles.{boosted_settles};
-ghost use Rattle.boost_step.specs.Numbers.{AreNumbersOver};
-ghost use Rattle.boost_step.specs.Groups.{Group, counter_below, outputs_of};
+ghost use Rattle.boost_step.specs.Groups.{counter_below};
 
-use crate::level::level_step;
-use counter_core::{Counter, Heard, Work, block_of, clear, place_in};
+use crate::nodes::Node;
+use counter_core::{Counter, Heard, Work, place_in};
 use plan_numbers::{Below, LevelNums, level_nums};
 use std::marker::Model;
-use sync_types::{NodeState, Premise, Reg};
+use sync_types::{NodeState, Premise};
 
 /// A level over blocks of a counter. Its nodes stand in blocks, each of which is the counter below,
 /// and after the blocks stand its spares. All of them have one more register, which comes to count
@@ -59,108 +54,6 @@ impl<A: Counter> Boost<A> {
         };
         let nums = level_nums(&below, k, f, c, s)?;
         Ok(Boost { inner, nums })
-    }
-}
-
-/// The place after a place in a block of `n` nodes, the first after the last.
-fn after(place: u32, n: u32) -> u32
-    requires { place < n }
-    ensures { result ≡ (place + 1) % n }
-{
-    if place + 1 == n { 0 } else { place + 1 }
-}
-
-/// Puts what is heard of the inner outputs of the first `nodes` nodes into `work`, by place.
-fn hear_outputs<A: Counter>(inner: &A, nodes: u32, heard: &Heard<'_>, work: &mut Work)
-    requires nodes { nodes ≤ length heard.now }
-    requires range { All (A.in_range inner.now) heard.now }
-    requires deep { All (λ s. (A.meaning inner.now).depth ≤ length s.registers) heard.now }
-    requires room { length heard.now ≤ length work.old.outputs.items }
-    ensures outputs { take nodes work.new.outputs.items
-        ≡ outputs_of (A.meaning inner.now) nodes heard.now }
-    ensures room { IsAsRoomy work.old work.new }
-{
-    inner.tell();
-    let n = inner.nodes();
-    let mut place = 0;
-    for u in 0..nodes {
-        work.set_inner(u, inner.output(place, heard.state(u)));
-        place = after(place, n);
-    }
-}
-
-/// The level's new register of the node at a place. It leaves the inner outputs heard of the
-/// blocks' nodes in `work`.
-fn level_register<A: Counter>(
-    inner: &A,
-    nums: &LevelNums,
-    place: u32,
-    heard: &Heard<'_>,
-    work: &mut Work,
-) -> Reg
-    requires numbers { AreNumbersOver (counter_below (A.meaning inner.now)) nums.now }
-    requires place { place < nums.now.nodes }
-    requires heard { length heard.now ≡ nums.now.nodes }
-    requires range { All (BoostedRange (A.in_range inner.now) (A.meaning inner.now).depth
-        nums.now.modulus) heard.now }
-    requires deep { All (λ s. (A.meaning inner.now).depth + 1 ≤ length s.registers) heard.now }
-    requires work { IsWorkFor nums.now.nodes work.old }
-    ensures register { result ≡ level_register (A.meaning inner.now) (level_of nums.now) place
-        heard.now }
-    ensures work { IsAsRoomy work.old work.new }
-{
-    hear_outputs(inner, nums.blocks * nums.block_nodes(), heard, work);
-    level_step(nums, place, heard, inner.depth(), work)
-}
-
-/// The step of the node at a place as one of the counter below, by what it hears of its block.
-fn step_in_block<A: Counter>(
-    inner: &A,
-    place: u32,
-    heard: &Heard<'_>,
-    work: &mut Work,
-    out: &mut NodeState,
-)
-    requires block { let m = A.meaning inner.now in
-        (place / m.nodes + 1) * m.nodes ≤ length heard.now }
-    requires range { All (A.in_range inner.now) heard.now }
-    requires deep { All (λ s. (A.meaning inner.now).depth ≤ length s.registers) heard.now }
-    requires work { IsWorkFor (A.meaning inner.now).nodes work.old }
-    requires out { (A.meaning inner.now).depth ≤ length out.old.registers }
-    ensures work { IsAsRoomy work.old work.new }
-    ensures out { let m = A.meaning inner.now in
-        out.new ≡ written m.depth
-        (m.next (place % m.nodes) (block m.nodes (place / m.nodes) heard.now)) out.old }
-{
-    inner.tell();
-    let n = inner.nodes();
-    let block = heard.block(block_of(place, n), n);
-    inner.advance(place_in(place, n), &block, work, out);
-}
-
-/// The step of the node at a place below the level: in its block, or zero if it is a spare.
-fn step_below<A: Counter>(
-    inner: &A,
-    nums: &LevelNums,
-    place: u32,
-    heard: &Heard<'_>,
-    work: &mut Work,
-    out: &mut NodeState,
-)
-    requires numbers { AreNumbersOver (counter_below (A.meaning inner.now)) nums.now }
-    requires heard { length heard.now ≡ nums.now.nodes }
-    requires range { All (A.in_range inner.now) heard.now }
-    requires deep { All (λ s. (A.meaning inner.now).depth ≤ length s.registers) heard.now }
-    requires work { IsWorkFor nums.now.nodes work.old }
-    requires out { (A.meaning inner.now).depth ≤ length out.old.registers }
-    ensures work { IsAsRoomy work.old work.new }
-    ensures out { let m = A.meaning inner.now in
-        out.new ≡ written m.depth (inner_state m (level_of nums.now) place heard.now) out.old }
-{
-    if place < nums.blocks * inner.nodes() {
-        step_in_block(inner, place, heard, work, out);
-    } else {
-        clear(inner.depth(), out);
     }
 }
 
@@ -210,8 +103,14 @@ impl<A: Counter> Counter for Boost<A> {
     }
 
     fn advance(&self, place: u32, heard: &Heard<'_>, work: &mut Work, out: &mut NodeState) {
-        let reg = level_register(&self.inner, &self.nums, place, heard, work);
-        step_below(&self.inner, &self.nums, place, heard, work, out);
+        let node = Node {
+            inner: &self.inner,
+            nums: &self.nums,
+            place,
+            heard,
+        };
+        let reg = node.level_register(work);
+        node.step_below(work, out);
         out.set_reg(self.inner.depth(), reg);
     }
 

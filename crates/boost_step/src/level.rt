@@ -10,10 +10,10 @@ ghost use Rattle.boost_step.specs.Kept.{KeepsOutputs};
 
 use crate::divisors::Divisor;
 use crate::most::most_below;
-use crate::obeying::obey;
 use crate::readings::Itself;
 use crate::votes::{block_beat, block_vote};
 use counter_core::{Heard, HeardRegister, Work};
+use phase_king::king_step;
 use plan_numbers::LevelNums;
 use sync_types::Reg;
 
@@ -97,6 +97,18 @@ pub fn level_step(
     ensures work { KeepsOutputs work.old work.new }
 {
     let beat = beat(nums, work);
+    let kind = beat % 3;
     let values = HeardRegister::of(heard, register, nums.nodes, nums.faults);
-    obey(&values, nums.modulus, beat, place, &mut work.values)
+    let own = values.at(place);
+    let counted = values.count_for(kind, own, (beat / 3) as u32, &mut work.values);
+    king_step(
+        kind,
+        own,
+        counted.same,
+        counted.least,
+        counted.king,
+        nums.nodes,
+        nums.faults,
+        nums.modulus,
+    )
 }
