@@ -55,6 +55,13 @@ module _ (q : ℕ → Bool) where
       ap (passing first) n ∙
       (passing_two first (u - first) 1 ∙ ap (λ a. passing first (u - first) ++ passing a 1) at)
 
+  -- one place, if it passes, and if it does not
+  pub passing_one : (u : ℕ) → q u ≡ true → passing u 1 ≡ u ∷ []
+  passing_one u e = ap (λ b. cond b (u ∷ []) []) e
+
+  pub passing_none : (u : ℕ) → q u ≡ false → passing u 1 ≡ []
+  passing_none u e = ap (λ b. cond b (u ∷ []) []) e
+
   -- and what they have
   pub mapped_more : {X : Type 0} → (f : ℕ → X) (first u : ℕ) → first ≤ u
       → map f (passing first (u - first)) ++ map f (passing u 1)

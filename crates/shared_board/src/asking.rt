@@ -1,14 +1,15 @@
 ghost use Rattle.std.specs.Prelude.{◌≡◌, ◌+◌, ◌*◌, ◌<◌, ◌≤◌, ℕ, List, length, map, slice_index_or};
 ghost use Rattle.std.specs.Prelude.{IfSome, Some, true, false};
 ghost use Rattle.std.specs.List.{range_with_len};
+ghost use Rattle.std.proofs.Props.{props};
 ghost use Rattle.counting.specs.Values.{count_of, majority_or_zero};
 ghost use Rattle.sync_types.specs.States.{State};
 ghost use Rattle.majority_votes.specs.Votes.{Votes};
 ghost use Rattle.shared_board.specs.Senders.{Sent, IsTold, TellsItself, liars_in, parts_of};
 ghost use Rattle.shared_board.specs.Votes.{AreAsked, AreVotes, HasRoomIn, HasVotesIn, block_part};
 ghost use Rattle.shared_board.specs.Votes.{block_vote, blocks_lead};
-ghost use Rattle.shared_board.specs.GroupVotes.{contents, IsGroup, StandsFor, register_heard, AreBelow};
-ghost use Rattle.shared_board.specs.GroupVotes.{AreLies, beat_of_lead};
+ghost use Rattle.shared_board.specs.GroupVotes.{contents, IsGroup, StandsFor, register_heard};
+ghost use Rattle.shared_board.specs.GroupVotes.{AreBelow, AreLies, beat_of_lead};
 
 use crate::group::Group;
 use crate::hearing::Hearing;
@@ -53,73 +54,59 @@ fn most_of(votes: &[u64]) -> u64
     0
 }
 
-/// Puts the vote heard of each block into its place: the known one, or that of its pointers.
-fn hear_votes(
-    hearing: &Hearing<'_>,
-    site: &Site<'_>,
-    votes: &[Option<u64>],
-    pointers: &[SharedTally],
-    heard: &mut [u64],
-)
-    requires same { site.now.senders.now ≡ hearing.now.senders.now }
-    requires votes { AreVotes site.now.senders.now site.now.intervals.now site.now.leaders
-        site.now.first site.now.size votes.now pointers.now }
-    requires room { HasVotesIn (length site.now.intervals.now) site.now.size
-        votes.now pointers.now }
-    requires heard { length heard.old ≡ length site.now.intervals.now }
-    ensures { heard.new ≡ map (λ i. block_vote site.now.senders.now hearing.now.lies.now
-        (slice_index_or site.now.intervals.now i 0) site.now.leaders
-        (site.now.first + i * site.now.size) site.now.size)
-        (range_with_len 0 (length site.now.intervals.now)) }
-{
-    for i in 0..heard.len() {
-        let reading = Pointers {
-            interval: site.intervals[i],
-            leaders: site.leaders,
-        };
-        let start = site.start(i);
-        heard[i] = hearing.most(&reading, votes[i], start, site.size, &pointers[i]);
-    }
+/// A node of a group that asks the group's blocks: what it hears, and what is known or counted of
+/// the lead and of the votes.
+#[derive(Clone, Copy, Drop)]
+struct Asking<'a> {
+    hearing: &'a Hearing<'a>,
+    site: &'a Site<'a>,
+    lead: Option<u64>,
+    votes: &'a [Option<u64>],
+    pointers: &'a [SharedTally],
+    ghost same: { site.now.senders.now ≡ hearing.now.senders.now },
+    ghost blocks: { AreAsked site.now.senders.now site.now.intervals.now site.now.leaders
+        site.now.first site.now.size lead votes.now pointers.now } by { Prim.hlevel props },
+    ghost few: { length site.now.intervals.now ≤ 16 },
 }
 
-/// The lead heard of the blocks, the known one or that of their votes.
-fn lead_heard(
-    hearing: &Hearing<'_>,
-    site: &Site<'_>,
-    known: Option<u64>,
-    votes: &[Option<u64>],
-    pointers: &[SharedTally],
-) -> u64
-    requires same { site.now.senders.now ≡ hearing.now.senders.now }
-    requires blocks { AreAsked site.now.senders.now site.now.intervals.now site.now.leaders
-        site.now.first site.now.size known votes.now pointers.now }
-    requires few { length site.now.intervals.now ≤ 16 }
-    ensures { result ≡ blocks_lead site.now.senders.now hearing.now.lies.now
-        site.now.intervals.now site.now.leaders site.now.first site.now.size }
-{
-    if let Some(lead) = known {
-        return lead;
+impl Asking<'_> {
+    /// Puts the vote heard of each block into its place: the known one, or that of its pointers.
+    fn hear_votes(&self, heard: &mut [u64])
+        requires { length heard.old ≡ length self.now.site.now.intervals.now }
+        ensures { let site = self.now.site.now in
+            heard.new ≡ map (λ i. block_vote site.senders.now self.now.hearing.now.lies.now
+            (slice_index_or site.intervals.now i 0) site.leaders
+            (site.first + i * site.size) site.size)
+            (range_with_len 0 (length site.intervals.now)) }
+    {
+        let site = self.site;
+        for i in 0..heard.len() {
+            let reading = Pointers {
+                interval: site.intervals[i],
+                leaders: site.leaders,
+            };
+            let known = self.votes[i];
+            let poll = &self.pointers[i];
+            heard[i] = self
+                .hearing
+                .most(&reading, known, site.start(i), site.size, poll);
+        }
     }
-    let mut room = [0; MOST_BLOCKS];
-    let heard = &mut room[..site.intervals.len()];
-    hear_votes(hearing, site, votes, pointers, heard);
-    most_of(heard)
-}
 
-/// The part of the beat heard of the lead, whose parts are counted.
-fn part_of_lead(hearing: &Hearing<'_>, site: &Site<'_>, lead: usize, parts: &[SharedTally]) -> u64
-    requires same { site.now.senders.now ≡ hearing.now.senders.now }
-    requires lead { lead < site.now.leaders }
-    requires stands { (none : Votes) → (slice_index_or parts.now lead none).values
-        ≡ parts_of site.now.senders.now site.now.beat
-        (site.now.first + lead * site.now.size) site.now.size }
-    requires room { HasRoomIn site.now.leaders site.now.size parts.now }
-    ensures { result ≡ block_part site.now.senders.now hearing.now.lies.now site.now.beat
-        (site.now.first + lead * site.now.size) site.now.size }
-{
-    let reading = Parts { beat: site.beat };
-    let start = site.start(lead);
-    hearing.most(&reading, None, start, site.size, &parts[lead])
+    /// The lead heard of the blocks, the known one or that of their votes.
+    fn lead(&self) -> u64
+        ensures { let site = self.now.site.now in
+            result ≡ blocks_lead site.senders.now self.now.hearing.now.lies.now
+            site.intervals.now site.leaders site.first site.size }
+    {
+        if let Some(lead) = self.lead {
+            return lead;
+        }
+        let mut room = [0; MOST_BLOCKS];
+        let heard = &mut room[..self.site.intervals.len()];
+        self.hear_votes(heard);
+        most_of(heard)
+    }
 }
 
 impl Group {
@@ -180,7 +167,7 @@ impl Group {
     }
 
     /// The beat that is heard, of a group that is not settled.
-    fn beat_heard(&self, hearing: &Hearing<'_>) -> u64
+    fn beat_heard<'a>(&'a self, hearing: &'a Hearing<'a>) -> u64
         requires stands { StandsFor hearing.now.senders.now self.now }
         requires open { self.now.is_settled ≡ false }
         ensures { result
@@ -198,8 +185,22 @@ impl Group {
             leaders: u64::from(self.nums.leaders),
             beat: self.nums.beat,
         };
-        let lead = lead_heard(hearing, &site, self.lead, &self.votes, &self.pointers);
-        part_of_lead(hearing, &site, lead as usize, &self.parts)
+        let asking = Asking {
+            hearing: &*hearing,
+            site: &site,
+            lead: self.lead,
+            votes: &self.votes,
+            pointers: &self.pointers,
+        };
+        let lead = asking.lead() as usize;
+        let reading = Parts { beat: site.beat };
+        hearing.most(
+            &reading,
+            None,
+            site.start(lead),
+            site.size,
+            &self.parts[lead],
+        )
     }
 
     /// Whether the new register of a node of the group may hang on lies. If it does not, all lies

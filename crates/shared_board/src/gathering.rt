@@ -13,35 +13,6 @@ use crate::stretches::NodeRange;
 use majority_votes::Steps;
 use std::sync::ledger::Ledger;
 
-/// Counts the pointers of the blocks, as far as they decide a vote.
-fn gather_votes<G: Ledger>(
-    site: &Site<'_>,
-    pointers: &mut [SharedTally],
-    votes: &mut [Option<u64>],
-    steps: &mut Steps<G>,
-)
-    requires { HasVotesIn (length site.now.intervals.now) site.now.size votes.old pointers.old }
-    ensures votes { AreVotes site.now.senders.now site.now.intervals.now site.now.leaders
-        site.now.first site.now.size votes.new pointers.new }
-    ensures room { HasVotesIn (length site.now.intervals.now) site.now.size
-        votes.new pointers.new }
-    ensures steps { steps.new ≤ steps.old + length (correct_in site.now.senders.now
-        site.now.first (length site.now.intervals.now * site.now.size)) }
-{
-    for i in 0..site.intervals.len() {
-        let block = NodeRange {
-            senders: site.senders,
-            first: site.start(i),
-            count: site.size,
-        };
-        let reading = Pointers {
-            interval: site.intervals[i],
-            leaders: site.leaders,
-        };
-        votes[i] = block.gather_most(&reading, &mut pointers[i], steps);
-    }
-}
-
 /// How many of the votes are this one; None is one that is not known.
 fn places_of(votes: &[Option<u64>], vote: Option<u64>) -> usize
     ensures { result ≡ count_of votes.now vote }
@@ -96,29 +67,19 @@ pub(crate) fn gather_lead<G: Ledger>(
     ensures steps { steps.new ≤ steps.old + length (correct_in site.now.senders.now
         site.now.first (length site.now.intervals.now * site.now.size)) }
 {
-    gather_votes(site, pointers, votes, steps);
-    known_lead(votes)
-}
-
-/// Counts the parts of the correct nodes of each leader.
-fn gather_leaders<G: Ledger>(site: &Site<'_>, parts: &mut [SharedTally], steps: &mut Steps<G>)
-    requires { HasRoomIn site.now.leaders site.now.size parts.old }
-    ensures parts { (b : ℕ) (none : Votes) → b < site.now.leaders
-        → (slice_index_or parts.new b none).values ≡ parts_of site.now.senders.now site.now.beat
-        (site.now.first + b * site.now.size) site.now.size }
-    ensures room { HasRoomIn site.now.leaders site.now.size parts.new }
-    ensures steps { steps.new ≤ steps.old + length (correct_in site.now.senders.now
-        site.now.first (site.now.leaders * site.now.size)) }
-{
-    let reading = Parts { beat: site.beat };
-    for b in 0..parts.len() {
+    for i in 0..site.intervals.len() {
+        let reading = Pointers {
+            interval: site.intervals[i],
+            leaders: site.leaders,
+        };
         let block = NodeRange {
             senders: site.senders,
-            first: site.start(b),
+            first: site.start(i),
             count: site.size,
         };
-        block.gather_numbers(&reading, &mut parts[b], steps);
+        votes[i] = block.gather_most(&reading, &mut pointers[i], steps);
     }
+    known_lead(votes)
 }
 
 /// Counts the parts of the lead, or of all leaders if the lead is not known. The answer is the
@@ -137,21 +98,25 @@ pub(crate) fn gather_beat<G: Ledger>(
     ensures steps { steps.new ≤ steps.old + length (correct_in site.now.senders.now
         site.now.first (site.now.leaders * site.now.size)) }
 {
-    match lead {
-        Some(lead) => {
-            let lead = lead as usize;
-            let block = NodeRange {
-                senders: site.senders,
-                first: site.start(lead),
-                count: site.size,
-            };
-            block.gather_most(&Parts { beat: site.beat }, &mut parts[lead], steps)
-        }
-        None => {
-            gather_leaders(site, parts, steps);
-            None
-        }
+    let reading = Parts { beat: site.beat };
+    if let Some(lead) = lead {
+        let lead = lead as usize;
+        let block = NodeRange {
+            senders: site.senders,
+            first: site.start(lead),
+            count: site.size,
+        };
+        return block.gather_most(&reading, &mut parts[lead], steps);
     }
+    for b in 0..parts.len() {
+        let block = NodeRange {
+            senders: site.senders,
+            first: site.start(b),
+            count: site.size,
+        };
+        block.gather_numbers(&reading, &mut parts[b], steps);
+    }
+    None
 }
 
 /// Counts the values of a group, unless the beat is known and counts none. The answer is the least

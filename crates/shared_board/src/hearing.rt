@@ -24,17 +24,7 @@ pub(crate) struct Hearing<'a> {
     ghost numbers: { AreNumbers nums.now } by { Prim.hlevel props },
     ghost within: { first + nums.now.nodes ≤ length senders.now.registers },
     ghost told: { IsTold senders.now lies.now },
-    ghost below: { AreBelow nums.now.modulus senders.now.registers } by { Prim.hlevel props },
     ghost range: { AreLies senders.now.height nums.now.modulus lies.now } by { Prim.hlevel props },
-}
-
-/// The items from one place on to before another.
-fn between<T>(items: &[T], from: usize, to: usize) -> &[T]
-    requires order { from ≤ to }
-    requires within { to ≤ length items.now }
-    ensures { result.now ≡ take (to - from) (drop from items.now) }
-{
-    &items[from..to]
 }
 
 impl Hearing<'_> {
@@ -50,28 +40,7 @@ impl Hearing<'_> {
         let to = self.senders.liars_below(first + count);
         Lies {
             height: self.senders.height(),
-            lies: between(self.lies, from, to),
-        }
-    }
-
-    /// The value of the register of one of the lies.
-    fn told_value(&self, at: usize) -> Option<u64>
-        requires { at < length self.now.lies.now }
-        ensures { result
-            ≡ (register_at self.now.senders.now.height (state_of self.now.lies.now at)).a }
-    {
-        self.lies[at].reg(self.senders.height()).a
-    }
-
-    /// The value heard of a node's register.
-    fn value(&self, node: usize) -> Option<u64>
-        requires { node < length self.now.senders.now.registers }
-        ensures { result ≡ value_heard self.now.senders.now self.now.lies.now node }
-    {
-        if self.senders.is_liar(node) {
-            self.told_value(self.senders.liars_below(node))
-        } else {
-            self.senders.register(node).a
+            lies: &self.lies[from..to],
         }
     }
 
@@ -82,7 +51,14 @@ impl Hearing<'_> {
             (self.now.first + beat / 3) }
     {
         let _nodes = self.senders.len();
-        self.value(self.first + (beat / 3) as usize)
+        let king = self.first + (beat / 3) as usize;
+        if self.senders.is_liar(king) {
+            let lies = self.lies;
+            let lie = &lies[self.senders.liars_below(king)];
+            lie.reg(self.senders.height()).a
+        } else {
+            self.senders.register(king).a
+        }
     }
 
     /// The number heard that most of `count` nodes from `first` on have: the known one, or that of

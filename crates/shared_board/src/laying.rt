@@ -45,17 +45,14 @@ impl Lies<'_> {
         half: usize,
         poll: &SharedTally,
     ) -> bool
-        requires { length poll.now.values + length self.now.lies.now ≤ poll.now.capacity }
         ensures { let told = map (λ s. Some (R.reads reading.now (shown self.now.height s)))
             self.now.lies.now in
             IsTrue result ↔ (half < count_of (poll.now.values ++ told) (Some number)) }
     {
-        let _room = poll.capacity();
-        let same = poll.count_of(Some(number));
-        if same + self.lies.len() <= half {
-            return false;
-        }
-        half < same + self.count_number(reading, number)
+        let Some(lacking) = half.checked_sub(poll.count_of(Some(number))) else {
+            return true;
+        };
+        lacking < self.lies.len() && lacking < self.count_number(reading, number)
     }
 
     /// The number that most have, of those that the poll has and those read of the lies; 0 if there
@@ -83,20 +80,6 @@ impl Lies<'_> {
         0
     }
 
-    /// Lays the values of the lies over those that a poll has.
-    fn lay_values<G: Ledger>(&self, poll: &mut SharedTally, steps: &mut Steps<G>)
-        requires { length poll.old.values + length self.now.lies.now ≤ poll.old.capacity }
-        ensures poll { poll.new ≡ record poll.old {
-          values = poll.old.values
-              ++ map (λ s. (register_at self.now.height s).a) self.now.lies.now;
-        } }
-        ensures steps { steps.new ≡ steps.old + length self.now.lies.now }
-    {
-        for lie in self.lies {
-            poll.place(lie.reg(self.height).a, steps);
-        }
-    }
-
     /// The least finite value that more than `faults` places hold, of the values in the poll and of
     /// those of the lies. The poll is as before afterwards.
     pub fn least<G: Ledger>(
@@ -112,7 +95,9 @@ impl Lies<'_> {
         ensures steps { steps.new ≡ steps.old + length self.now.lies.now }
     {
         let held = poll.len();
-        self.lay_values(poll, steps);
+        for lie in self.lies {
+            poll.place(lie.reg(self.height).a, steps);
+        }
         let least = poll.least_above(faults);
         poll.cut(held);
         least

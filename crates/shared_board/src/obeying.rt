@@ -58,61 +58,28 @@ pub(crate) fn is_test_open(same: usize, liars: usize, need: usize) -> bool
     }
 }
 
-/// The least value that more than `faults` have, the known one or that of the values with the lies.
-fn least_of<G: Ledger>(
-    lies: &Lies<'_>,
-    faults: usize,
-    known: Option<Option<u64>>,
-    values: &mut SharedTally,
-    steps: &mut Steps<G>,
-) -> Option<u64>
-    requires room { length values.old.values + length lies.now.lies.now ≤ values.old.capacity }
-    requires known { let heard = values.old.values
-        ++ map (λ s. (register_at lies.now.height s).a) lies.now.lies.now in
-        IfSome known (λ m. least_above faults heard ≡ m) }
-    ensures least { result ≡ least_above faults (values.old.values
-        ++ map (λ s. (register_at lies.now.height s).a) lies.now.lies.now) }
-    ensures same { values.new ≡ values.old }
-    ensures steps { steps.new ≤ steps.old + length lies.now.lies.now }
-{
-    match known {
-        Some(least) => least,
-        None => lies.least(faults, values, steps),
-    }
-}
-
 /// A node that obeys: the numbers of its level, and its own register.
 #[derive(Clone, Copy, Drop)]
 struct Node<'a> {
     nums: &'a LevelNums,
     own: Reg,
     ghost numbers: { AreNumbers nums.now } by { Prim.hlevel props },
-    ghost below: { IfSome own.a (λ a. a < nums.now.modulus) } by { Prim.hlevel props },
 }
 
 impl Node<'_> {
-    /// Its register after the instruction of kind 0: an infinite value stays so, and a finite one
-    /// stays if enough have it.
-    fn obey_zeroth(&self, lies: &Lies<'_>, values: &SharedTally) -> Reg
-        requires { length values.now.values + length lies.now.lies.now ≤ values.now.capacity }
-        ensures { let heard = values.now.values
-            ++ map (λ s. (register_at lies.now.height s).a) lies.now.lies.now in
-            let nums = self.now.nums.now in
+    /// Its register after the instruction of kind 0, if so many have its value: a finite value
+    /// stays if these are enough, and an infinite one stays.
+    fn obey_zeroth(&self, same: usize) -> Reg
+        ensures { let nums = self.now.nums.now in
             result ≡ incremented (up nums.modulus) (record {
-              a = if nat_le (nums.nodes - nums.faults) (count_of heard self.now.own.a)
-                  then self.now.own.a else None;
+              a = if nat_le (nums.nodes - nums.faults) same then self.now.own.a else None;
               d = self.now.own.d;
             }) }
     {
         let nums = self.nums;
-        let own = self.own;
-        if own.a.is_none() {
-            return own;
-        }
-        let same = lies.count(own.a, values);
         king_step(
             0,
-            own,
+            self.own,
             same,
             None,
             None,
@@ -122,38 +89,19 @@ impl Node<'_> {
         )
     }
 
-    /// Its register after the instruction of kind 1: whether enough have the own value, and the
-    /// least value that more than the faults have.
-    fn obey_first<G: Ledger>(
-        &self,
-        least: Option<Option<u64>>,
-        lies: &Lies<'_>,
-        values: &mut SharedTally,
-        steps: &mut Steps<G>,
-    ) -> Reg
-        requires room { length values.old.values + length lies.now.lies.now ≤ values.old.capacity }
-        requires below { All (λ o. IfSome o (λ a. a < self.now.nums.now.modulus))
-            (values.old.values ++ map (λ s. (register_at lies.now.height s).a) lies.now.lies.now) }
-        requires least { let heard = values.old.values
-            ++ map (λ s. (register_at lies.now.height s).a) lies.now.lies.now in
-            IfSome least (λ m. least_above self.now.nums.now.faults heard ≡ m) }
-        ensures register { let heard = values.old.values
-            ++ map (λ s. (register_at lies.now.height s).a) lies.now.lies.now in
-            let nums = self.now.nums.now in
+    /// Its register after the instruction of kind 1: the least value that more than the faults
+    /// have, and whether the nodes that have its own are enough.
+    fn obey_first(&self, same: usize, least: Option<u64>) -> Reg
+        ensures { let nums = self.now.nums.now in
             result ≡ incremented (up nums.modulus) (record {
-              a = least_above nums.faults heard;
-              d = nat_le (nums.nodes - nums.faults) (count_of heard self.now.own.a);
+              a = least;
+              d = nat_le (nums.nodes - nums.faults) same;
             }) }
-        ensures same { values.new ≡ values.old }
-        ensures steps { steps.new ≤ steps.old + length lies.now.lies.now }
     {
         let nums = self.nums;
-        let own = self.own;
-        let same = lies.count(own.a, values);
-        let least = least_of(lies, nums.faults as usize, least, values, steps);
         king_step(
             1,
-            own,
+            self.own,
             same,
             least,
             None,
@@ -174,7 +122,6 @@ pub(crate) fn obey<G: Ledger>(
     steps: &mut Steps<G>,
 ) -> Reg
     requires beat { beat < hearing.now.nums.now.beat }
-    requires own { IfSome own.a (λ a. a < hearing.now.nums.now.modulus) }
     requires room { hearing.now.nums.now.nodes ≤ values.old.capacity }
     requires values { beat % 3 < 2 → values.old.values
         ≡ values_of hearing.now.senders.now hearing.now.first hearing.now.nums.now.nodes }
@@ -197,8 +144,15 @@ pub(crate) fn obey<G: Ledger>(
     let node = Node { nums, own };
     let lies = hearing.lies_in(hearing.first, nums.nodes as usize);
     if beat % 3 == 0 {
-        node.obey_zeroth(&lies, values)
-    } else {
-        node.obey_first(least, &lies, values, steps)
+        if own.a.is_none() {
+            return own;
+        }
+        return node.obey_zeroth(lies.count(own.a, values));
     }
+    let same = lies.count(own.a, values);
+    let least = match least {
+        Some(least) => least,
+        None => lies.least(nums.faults as usize, values, steps),
+    };
+    node.obey_first(same, least)
 }

@@ -54,27 +54,6 @@ impl NodeRange<'_> {
         self.senders.liars_below(self.end()) - self.senders.liars_below(self.first)
     }
 
-    /// Counts what is read of a node, if it is correct.
-    fn gather_number<R: Reading, G: Ledger>(
-        &self,
-        reading: &R,
-        u: usize,
-        poll: &mut SharedTally,
-        steps: &mut Steps<G>,
-    )
-        requires within { u < length self.now.senders.now.registers }
-        requires room { length poll.old.values < poll.old.capacity }
-        ensures poll { poll.new ≡ record poll.old {
-          values = poll.old.values
-              ++ numbers_of self.now.senders.now (R.reads reading.now) u 1;
-        } }
-        ensures steps { steps.new ≡ steps.old + length (correct_in self.now.senders.now u 1) }
-    {
-        if !self.senders.is_liar(u) {
-            poll.place(Some(reading.of(self.senders.output(u))), steps);
-        }
-    }
-
     /// Counts what is read of its correct nodes.
     pub fn gather_numbers<R: Reading, G: Ledger>(
         &self,
@@ -92,7 +71,9 @@ impl NodeRange<'_> {
     {
         poll.clear();
         for u in self.first..self.end() {
-            self.gather_number(reading, u, poll, steps);
+            if !self.senders.is_liar(u) {
+                poll.place(Some(reading.of(self.senders.output(u))), steps);
+            }
         }
     }
 
@@ -152,21 +133,6 @@ impl NodeRange<'_> {
         known_number(poll.majority_with(self.liars()))
     }
 
-    /// Counts the value of a node's register, if it is correct.
-    fn gather_value<G: Ledger>(&self, u: usize, poll: &mut SharedTally, steps: &mut Steps<G>)
-        requires within { u < length self.now.senders.now.registers }
-        requires room { length poll.old.values < poll.old.capacity }
-        ensures poll { poll.new ≡ record poll.old {
-          values = poll.old.values
-              ++ values_of self.now.senders.now u 1;
-        } }
-        ensures steps { steps.new ≡ steps.old + length (correct_in self.now.senders.now u 1) }
-    {
-        if !self.senders.is_liar(u) {
-            poll.place(self.senders.register(u).a, steps);
-        }
-    }
-
     /// Counts the values of its correct nodes' registers.
     pub fn gather_values<G: Ledger>(&self, poll: &mut SharedTally, steps: &mut Steps<G>)
         requires { self.now.count ≤ poll.old.capacity }
@@ -179,7 +145,9 @@ impl NodeRange<'_> {
     {
         poll.clear();
         for u in self.first..self.end() {
-            self.gather_value(u, poll, steps);
+            if !self.senders.is_liar(u) {
+                poll.place(self.senders.register(u).a, steps);
+            }
         }
     }
 }

@@ -1,13 +1,14 @@
 use Rattle.std.proofs.Common.{◌≡◌, ◌-◌, ◌∙◌, ◌<◌, ◌++◌, ◌%◌, ap, map, sym, subst, if◌then◌else◌}
-use Rattle.std.proofs.Common.{nat_le, IfSome, All, ℕ, Option, List, None, arith}
+use Rattle.std.proofs.Common.{nat_le, IfSome, ℕ, Option, List, None, arith}
 use Rattle.std.proofs.Math.Nat.{mod-lt}
 use Rattle.counting.specs.Values.{count_of, least_above}
 use Rattle.sync_types.specs.declared.states.Reg.{Reg}
 use Rattle.sync_types.specs.States.{register_at}
 use Rattle.construction.specs.PhaseKing.{incremented, up}
 use Rattle.shared_board.proofs.Obeys.{king_within, king_obeys, zeroth_obeys, first_obeys}
-use Rattle.shared_board.proofs.Obeys.{room_for_lies, laid_below, least_laid}
+use Rattle.shared_board.proofs.Obeys.{room_for_lies, least_laid}
 use Rattle.shared_board.proofs.obeying.obey.Goals as goal
+use Rattle.shared_board.proofs.obeying.obey.Goals.{in-Some, in-None}
 
 -- the king's value, or the own one
 pub returns-then-beat-eq2-clause-register : goal.returns-then-beat-eq2-clause-register
@@ -19,10 +20,40 @@ returns-then-beat-eq2-clause-register g c =
     c.king-king.result c.if-beat-eq2.true
     (king_within nums at.numbers c.args.beat c.requires.beat) c.king-king.ensures
 
-pub obey_zeroth-requires : goal.obey_zeroth-requires
-obey_zeroth-requires g c =
+kind_one : (beat : ℕ) → (beat % 3 ≡ 2 → ⊥) → (beat % 3 ≡ 0 → ⊥) → beat % 3 ≡ 1
+kind_one beat two zeroth = let three : 0 < 3 =
+    omega arith in grind (arith, mod-lt beat three, two, zeroth)
+
+pub count-requires : goal.count-requires
+count-requires g c =
     let at = c.args.hearing.now in
     let values = c.requires.values (omega (arith, c.if-beat-eq0.true)) in
+    omega (
+      arith,
+      c.requires.room,
+      room_for_lies at.senders.now at.nums.now at.first c.args.beat
+          c.args.own at.lies.now at.told at.within c.args.values.now.values
+          c.lies_in-lies.result.lies.now values c.lies_in-lies.ensures.lies,
+    )
+
+pub count-same-requires : goal.count-same-requires
+count-same-requires g c =
+    let at = c.args.hearing.now in
+    let one = kind_one c.args.beat c.if-beat-eq2.false c.if-beat-eq0.false in
+    let values = c.requires.values (omega (arith, one)) in
+    omega (
+      arith,
+      c.requires.room,
+      room_for_lies at.senders.now at.nums.now at.first c.args.beat
+          c.args.own at.lies.now at.told at.within c.args.values.now.values
+          c.lies_in-lies.result.lies.now values c.lies_in-lies.ensures.lies,
+    )
+
+pub least-least-requires : goal.least-least-requires
+least-least-requires g c =
+    let at = c.args.hearing.now in
+    let one = kind_one c.args.beat c.if-beat-eq2.false c.if-beat-eq0.false in
+    let values = c.requires.values (omega (arith, one)) in
     omega (
       arith,
       c.requires.room,
@@ -43,60 +74,17 @@ returns-then-beat-eq0-clause-register g c =
       a = if nat_le (nums.nodes - nums.faults) (count_of heard own.a) then own.a else None;
       d = own.d;
     }) in
+    let with : ℕ → Reg = λ same. incremented (up nums.modulus)
+    (record { a = if nat_le (nums.nodes - nums.faults) same then own.a else None; d = own.d }) in
     c.obey_zeroth.ensures
+    ∙ ap with c.count.ensures
     ∙ (ap (λ h. after (c.args.values.now.values ++ map (λ t. (register_at h t).a) slice))
     c.lies_in-lies.ensures.height
     ∙ zeroth_obeys at.senders.now nums at.first c.args.beat own at.lies.now at.told at.within
     c.args.values.now.values slice c.if-beat-eq0.true values c.lies_in-lies.ensures.lies)
 
-kind_one : (beat : ℕ) → (beat % 3 ≡ 2 → ⊥) → (beat % 3 ≡ 0 → ⊥) → beat % 3 ≡ 1
-kind_one beat two zeroth = let three : 0 < 3 =
-    omega arith in grind (arith, mod-lt beat three, two, zeroth)
-
-pub obey_first-requires-clause-room : goal.obey_first-requires-clause-room
-obey_first-requires-clause-room g c =
-    let at = c.args.hearing.now in
-    let one = kind_one c.args.beat c.if-beat-eq2.false c.if-beat-eq0.false in
-    let values = c.requires.values (omega (arith, one)) in
-    omega (
-      arith,
-      c.requires.room,
-      room_for_lies at.senders.now at.nums.now at.first c.args.beat
-          c.args.own at.lies.now at.told at.within c.args.values.now.values
-          c.lies_in-lies.result.lies.now values c.lies_in-lies.ensures.lies,
-    )
-
--- what is counted, and what the lies have, is in range
-pub obey_first-requires-clause-below : goal.obey_first-requires-clause-below
-obey_first-requires-clause-below g c =
-    let at = c.args.hearing.now in
-    let m : ℕ = at.nums.now.modulus in
-    let one = kind_one c.args.beat c.if-beat-eq2.false c.if-beat-eq0.false in
-    let values = c.requires.values (omega (arith, one)) in
-    let slice = c.lies_in-lies.result.lies.now in
-    subst (λ h. All (λ o. IfSome o (λ a. a < m))
-    (c.args.values.now.values ++ map (λ t. (register_at h t).a) slice))
-    (sym c.lies_in-lies.ensures.height)
-    (laid_below at.senders.now m at.first at.nums.now.nodes at.lies.now at.within at.below at.range
-    c.args.values.now.values slice values c.lies_in-lies.ensures.lies)
-
--- a known least value is that of what is laid
-pub obey_first-requires-clause-least : goal.obey_first-requires-clause-least
-obey_first-requires-clause-least g c =
-    let at = c.args.hearing.now in
-    let one = kind_one c.args.beat c.if-beat-eq2.false c.if-beat-eq0.false in
-    let values = c.requires.values (omega (arith, one)) in
-    let slice = c.lies_in-lies.result.lies.now in
-    subst (λ h. IfSome c.args.least
-    (λ m. least_above at.nums.now.faults
-    (c.args.values.now.values ++ map (λ t. (register_at h t).a) slice) ≡ m))
-    (sym c.lies_in-lies.ensures.height)
-    (least_laid at.senders.now at.nums.now at.first c.args.beat c.args.own at.lies.now at.told
-    at.within c.args.least c.requires.least c.args.values.now.values slice values
-    c.lies_in-lies.ensures.lies)
-
-pub returns-else-beat-eq0-clause-register : goal.returns-else-beat-eq0-clause-register
-returns-else-beat-eq0-clause-register g c =
+pub returns-clause-register : goal.returns-clause-register
+returns-clause-register g c =
     let at = c.args.hearing.now in
     let nums = at.nums.now in
     let own = c.args.own in
@@ -109,7 +97,26 @@ returns-else-beat-eq0-clause-register g c =
       d =
           nat_le (nums.nodes - nums.faults) (count_of heard own.a);
     }) in
-    c.obey_first.ensures.register
+    let with : Option ℕ → ℕ → Reg = λ least same. incremented (up nums.modulus)
+    (record { a = least; d = nat_le (nums.nodes - nums.faults) same }) in
+    let h = c.lies_in-lies.result.height in
+    let heard = c.args.values.now.values ++ map (λ t. (register_at h t).a) slice in
+    let known = subst (λ h. IfSome c.args.least
+    (λ m. least_above nums.faults
+    (c.args.values.now.values ++ map (λ t. (register_at h t).a) slice) ≡ m))
+    (sym c.lies_in-lies.ensures.height)
+    (least_laid at.senders.now nums at.first c.args.beat own at.lies.now at.told at.within
+    c.args.least c.requires.least c.args.values.now.values slice values
+    c.lies_in-lies.ensures.lies) in
+    let least : c.match-least.least ≡ least_above nums.faults heard =
+    elim c.match-least.branch [
+      | in-Some w ↦ w.least-is ∙ sym (subst (λ o. IfSome o (λ m. least_above nums.faults heard ≡ m))
+          w.in-Some.is known)
+      | in-None w ↦ w.least-is ∙ w.least-least.ensures.least
+    ] in
+    c.obey_first.ensures
+    ∙ ap (λ l. with l c.count-same.result) least
+    ∙ ap (with (least_above nums.faults heard)) c.count-same.ensures
     ∙ (ap (λ h. after (c.args.values.now.values ++ map (λ t. (register_at h t).a) slice))
     c.lies_in-lies.ensures.height
     ∙ first_obeys at.senders.now nums at.first c.args.beat own at.lies.now at.told at.within

@@ -1,7 +1,12 @@
-use Rattle.std.proofs.Common.{◌≡◌, ℕ, ◌*◌, ◌≤◌, ◌∙◌, All, length, get_or, ap, sym, subst, arith}
+use Rattle.std.proofs.Common.{◌≡◌, ℕ, List, ◌+◌, ◌*◌, ◌<◌, ◌≤◌, ◌∙◌, All, length, ap, sym}
+use Rattle.std.proofs.Common.{subst, refl, arith}
+use Rattle.std.proofs.lemmas.Nat.{mul-le}
 use Rattle.majority_votes.specs.Votes.{Votes}
+use Rattle.sync_types.specs.States.{State}
+use Rattle.shared_board.specs.Senders.{Sent, parts_of}
 use Rattle.shared_board.specs.Votes.{IsKnown, AreVotes, blocks_lead}
-use Rattle.shared_board.specs.GroupVotes.{contents, lead_heard}
+use Rattle.shared_board.specs.GroupVotes.{contents, IsGroup, lead_heard}
+use Rattle.shared_board.specs.declared.group.Group.{Group}
 use Rattle.shared_board.proofs.Known.{lead_below, agrees}
 use Rattle.shared_board.proofs.Groups.{facts}
 use Rattle.shared_board.proofs.group.Group.beat_heard.Goals as goal
@@ -25,8 +30,8 @@ invariant_of-site c =
     }
 
 -- what is known and counted, by the names of the call
-pub lead_heard-lead-requires-clause-blocks : goal.lead_heard-lead-requires-clause-blocks
-lead_heard-lead-requires-clause-blocks c =
+pub invariant_of-asking : goal.invariant_of-asking
+invariant_of-asking c =
     let group = c.args.self.now in
     let s = c.args.hearing.now.senders.now in
     let n : ℕ = group.block in
@@ -39,65 +44,126 @@ lead_heard-lead-requires-clause-blocks c =
     let items = group.intervals.items in
     let long = ap length c.deref.ensures.value ∙ (facts group room).long in
     record {
-      known = subst (λ is. IsKnown s
-          (λ lies. blocks_lead s lies is leaders group.first n) group.lead)
-          (sym c.deref.ensures.value)
-          (subst (λ m. IsKnown s (λ lies. blocks_lead s lies items m group.first n) group.lead)
-          (sym c.from.ensures) counted.lead);
-      counted = subst (λ is. AreVotes s is leaders group.first n votes pointers)
-          (sym c.deref.ensures.value)
-          (subst (λ m. AreVotes s items m group.first n votes pointers) (sym c.from.ensures)
-          (subst (λ vs. AreVotes s items group.nums.leaders group.first n vs pointers)
-          (sym c.deref-2.ensures.value)
-          (subst (λ ts. AreVotes s items group.nums.leaders group.first n group.votes.items ts)
-          (sym c.deref-3.ensures.value) counted.votes)));
-      room = (
-        ap length c.deref-2.ensures.value ∙ (room.votes ∙ sym long),
-        (
-          ap length c.deref-3.ensures.value ∙ (room.pointers ∙ sym long),
-          subst (All (λ (t : Votes). n ≤ t.capacity))
-              (sym c.deref-3.ensures.value) room.pointers_room,
-        ),
+      same = refl;
+      blocks = record {
+        known = subst (λ is. IsKnown s
+            (λ lies. blocks_lead s lies is leaders group.first n) group.lead)
+            (sym c.deref.ensures.value)
+            (subst (λ m. IsKnown s (λ lies. blocks_lead s lies items m group.first n) group.lead)
+            (sym c.from.ensures) counted.lead);
+        counted = subst (λ is. AreVotes s is leaders group.first n votes pointers)
+            (sym c.deref.ensures.value)
+            (subst (λ m. AreVotes s items m group.first n votes pointers) (sym c.from.ensures)
+            (subst (λ vs. AreVotes s items group.nums.leaders group.first n vs pointers)
+            (sym c.deref-2.ensures.value)
+            (subst (λ ts. AreVotes s items group.nums.leaders group.first n group.votes.items ts)
+            (sym c.deref-3.ensures.value) counted.votes)));
+        room = (
+          ap length c.deref-2.ensures.value ∙ (room.votes ∙ sym long),
+          (
+            ap length c.deref-3.ensures.value ∙ (room.pointers ∙ sym long),
+            subst (All (λ (t : Votes). n ≤ t.capacity))
+                (sym c.deref-3.ensures.value) room.pointers_room,
+          ),
+        );
+      };
+      few = omega (
+        arith,
+        ap length c.deref.ensures.value,
+        (facts c.args.self.now room).long,
+        room.numbers.sized.most_blocks,
       );
     }
 
--- a level has at most 16 blocks
-pub lead_heard-lead-requires-clause-few : goal.lead_heard-lead-requires-clause-few
-lead_heard-lead-requires-clause-few c =
-    let room = c.requires.stands.room in
-    omega (
-      arith,
-      ap length c.deref.ensures.value,
-      (facts c.args.self.now room).long,
-      room.numbers.sized.most_blocks,
-    )
-
 -- the lead is one of the leaders, whose parts are counted
-pub part_of_lead-requires-clause-lead : goal.part_of_lead-requires-clause-lead
-part_of_lead-requires-clause-lead c =
-    let group = c.args.self.now in
-    let f = facts group c.requires.stands.room in
+lead_in : (group : Group) → IsGroup group → (s : Sent) (intervals : List ℕ) (leaders : ℕ)
+    (lies : List State) (lead : ℕ) → leaders ≡ group.nums.leaders
+    → lead ≡ blocks_lead s lies intervals leaders group.first group.block
+    → lead < group.nums.leaders
+lead_in group room s intervals leaders lies lead e is =
     omega (
       arith,
-      c.lead_heard-lead.ensures,
-      lead_below c.args.hearing.now.senders.now c.deref.result.now c.from.result group.first
-          group.block c.args.hearing.now.lies.now (omega (arith, c.from.ensures, f.some_leaders)),
+      e,
+      is,
+      lead_below s intervals leaders group.first group.block lies
+          (omega (arith, e, (facts group room).some_leaders)),
     )
 
-pub part_of_lead-requires-clause-stands : goal.part_of_lead-requires-clause-stands
-part_of_lead-requires-clause-stands c = λ none.
+pub start-requires : goal.start-requires
+start-requires c =
     let group = c.args.self.now in
+    let room = c.requires.stands.room in
+    let f = facts group room in
+    let hearing = c.args.hearing.now in
+    omega (
+      arith,
+      lead_in group room hearing.senders.now c.deref.result.now c.from.result hearing.lies.now
+          c.lead-lead.result c.from.ensures c.lead-lead.ensures,
+      f.few_leaders,
+      ap length c.deref.ensures.value ∙ f.long,
+    )
+
+pub index-requires : goal.index-requires
+index-requires c =
+    let group = c.args.self.now in
+    let room = c.requires.stands.room in
+    let hearing = c.args.hearing.now in
+    omega (
+      arith,
+      lead_in group room hearing.senders.now c.deref.result.now c.from.result hearing.lies.now
+          c.lead-lead.result c.from.ensures c.lead-lead.ensures,
+      room.parts,
+    )
+
+pub most-requires-clause-within : goal.most-requires-clause-within
+most-requires-clause-within c =
+    let group = c.args.self.now in
+    let room = c.requires.stands.room in
+    let f = facts group room in
+    let hearing = c.args.hearing.now in
+    let lead = lead_in group room hearing.senders.now c.deref.result.now c.from.result
+    hearing.lies.now c.lead-lead.result c.from.ensures c.lead-lead.ensures in
+    omega (
+      arith,
+      c.start.ensures,
+      mul-le (c.lead-lead.result + 1) group.block group.nums.blocks group.block
+          (omega (arith, lead, f.few_leaders)) (omega arith),
+      f.size,
+      c.requires.stands.within,
+    )
+
+pub most-requires-clause-stands : goal.most-requires-clause-stands
+most-requires-clause-stands c =
+    let group = c.args.self.now in
+    let room = c.requires.stands.room in
     let s = c.args.hearing.now.senders.now in
     let lies = c.args.hearing.now.lies.now in
     let counted = c.requires.stands.counted c.requires.open in
-    let lead = c.lead_heard-lead.result in
+    let lead = c.lead-lead.result in
+    let poll = c.index.result.now in
     let is : lead ≡ lead_heard s (contents group) lies =
-    c.lead_heard-lead.ensures
+    c.lead-lead.ensures
     ∙ (ap (λ is. blocks_lead s lies is c.from.result group.first group.block) c.deref.ensures.value
     ∙ ap (λ m. blocks_lead s lies group.intervals.items m group.first group.block)
     c.from.ensures) in
-    ap (λ ts. (get_or ts lead none).values) c.deref-4.ensures.value
-    ∙ counted.parts c.in_default.is lead none
-    (omega (arith, part_of_lead-requires-clause-lead c, c.from.ensures))
-    (agrees s (lead_heard s (contents group)) group.lead counted.lead lies c.args.hearing.now.told
-    lead is)
+    record {
+      known = tt;
+      counted = λ none.
+          ap (λ (v : Votes). v.values) c.index.ensures
+          ∙ (counted.parts c.in_default.is lead poll
+          (lead_in group room s c.deref.result.now c.from.result lies lead c.from.ensures
+          c.lead-lead.ensures)
+          (agrees s (lead_heard s (contents group)) group.lead counted.lead lies
+          c.args.hearing.now.told lead is)
+          ∙ ap (λ a. parts_of s group.nums.beat a group.block) (sym c.start.ensures));
+    }
+
+pub most-requires-clause-room : goal.most-requires-clause-room
+most-requires-clause-room c =
+    let group = c.args.self.now in
+    let room = c.requires.stands.room in
+    let hearing = c.args.hearing.now in
+    let lead = lead_in group room hearing.senders.now c.deref.result.now c.from.result
+    hearing.lies.now c.lead-lead.result c.from.ensures c.lead-lead.ensures in
+    subst (λ (v : Votes). group.block ≤ v.capacity) (sym c.index.ensures)
+    (room.parts_room c.lead-lead.result c.index.result.now (omega (arith, lead, room.parts)))

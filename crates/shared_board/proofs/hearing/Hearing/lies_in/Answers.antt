@@ -4,8 +4,8 @@ use Rattle.shared_board.specs.Senders.{is_liar}
 use Rattle.shared_board.proofs.hearing.Hearing.lies_in.Goals as goal
 
 -- there are as many liars up to the end of a stretch as before it, or more
-pub between-requires-clause-order : goal.between-requires-clause-order
-between-requires-clause-order c =
+pub slice_bounds-result-start : goal.slice_bounds-result-start
+slice_bounds-result-start c =
     let s = c.args.self.now.senders.now in
     omega (
       arith,
@@ -16,8 +16,8 @@ between-requires-clause-order c =
     )
 
 -- and no more than there are in all
-pub between-requires-clause-within : goal.between-requires-clause-within
-between-requires-clause-within c =
+pub slice_bounds-result-end : goal.slice_bounds-result-end
+slice_bounds-result-end c =
     let s = c.args.self.now.senders.now in
     omega (
       arith,
@@ -26,3 +26,10 @@ between-requires-clause-within c =
       shorter (is_liar s)
           (c.args.first + c.args.count) (length s.registers) c.requires,
     )
+
+pub slice_bounds-result-count : goal.slice_bounds-result-count
+slice_bounds-result-count c = slice_bounds-result-start c
+
+pub offset_bounds-self-from : goal.offset_bounds-self-from
+offset_bounds-self-from c =
+    omega (arith, slice_bounds-result-start c, slice_bounds-result-end c, c.well_formed)

@@ -2,7 +2,7 @@ use Rattle.std.proofs.Common.{ℕ, ◌+◌, ◌*◌, ◌<◌, ◌≤◌, length,
 use Rattle.majority_votes.specs.Votes.{Votes}
 use Rattle.shared_board.specs.Senders.{correct_in}
 use Rattle.shared_board.specs.Votes.{IsVote, HasVotesIn}
-use Rattle.shared_board.proofs.gathering.gather_votes.Given as goal
+use Rattle.shared_board.proofs.gathering.gather_lead.Given as goal
 
 -- the blocks so far, and room in every poll
 abbrev pub invariant-loop-i : goal.invariant-loop-i

@@ -2,7 +2,7 @@ use Rattle.std.proofs.Common.{◌≡◌, ℕ, ◌+◌, ◌*◌, ◌<◌, ◌≤�
 use Rattle.majority_votes.specs.Votes.{Votes}
 use Rattle.shared_board.specs.Senders.{correct_in, parts_of}
 use Rattle.shared_board.specs.Votes.{HasRoomIn}
-use Rattle.shared_board.proofs.gathering.gather_leaders.Given as goal
+use Rattle.shared_board.proofs.gathering.gather_beat.Given as goal
 
 -- the leaders so far, and room in every poll
 abbrev pub invariant-loop-b : goal.invariant-loop-b
