@@ -33,16 +33,21 @@ impl Divisor {
         }
     }
 
-    /// This number times another. If the other is known when this is compiled, and a power of two,
-    /// it takes no division.
-    pub fn times(&self, other: u64) -> Divisor
-        requires some { 1 ≤ other }
-        requires small { self.now * other < 2 ^ 64 }
-        ensures { result ≡ self.now * other }
+    /// This number, the interval of a block, times twice the number of leaders: the interval of the
+    /// block after it. For two leaders it takes no division.
+    pub fn next_interval(&self, leaders: u64) -> Divisor
+        requires some { 1 ≤ leaders }
+        requires small { self.now * (2 * leaders) < 2 ^ 64 }
+        ensures { result ≡ self.now * (2 * leaders) }
     {
+        let rest = if leaders == 2 {
+            (self.factor - 1) / 4
+        } else {
+            (self.factor - 1) / (2 * leaders)
+        };
         Divisor {
-            divisor: self.divisor * other,
-            factor: (self.factor - 1) / other + 1,
+            divisor: self.divisor * (2 * leaders),
+            factor: rest + 1,
         }
     }
 

@@ -17,20 +17,6 @@ use phase_king::king_step;
 use plan_numbers::LevelNums;
 use sync_types::Reg;
 
-/// The interval of the block after one with this interval.
-fn next_interval(interval: &Divisor, leaders: u64) -> Divisor
-    requires leaders { 1 ≤ leaders }
-    requires few { leaders ≤ 256 }
-    requires small { interval.now * (2 * leaders) < 2 ^ 64 }
-    ensures { result ≡ interval.now * (2 * leaders) }
-{
-    if leaders == 2 {
-        interval.times(4)
-    } else {
-        interval.times(2 * leaders)
-    }
-}
-
 /// The block that leads: the one for which most blocks vote, by the inner outputs in `work`.
 pub fn lead(nums: &LevelNums, work: &mut Work) -> u32
     requires numbers { AreNumbers nums.now }
@@ -45,7 +31,7 @@ pub fn lead(nums: &LevelNums, work: &mut Work) -> u32
     let mut interval = Divisor::new(nums.beat);
     let mut start = 0;
     for i in 0..nums.blocks {
-        let next = next_interval(&interval, leaders);
+        let next = interval.next_interval(leaders);
         let vote = block_vote(&work.outputs[start..start + n], interval, leaders);
         work.votes[i as usize] = vote;
         interval = next;

@@ -19,15 +19,9 @@ new-interval-requires c =
     let beat = (related c.args.nums.now c.requires.numbers).sized.beat in
     omega arith
 
-pub next_interval-next-requires-clause-leaders : goal.next_interval-next-requires-clause-leaders
-next_interval-next-requires-clause-leaders c =
+pub next_interval-next-requires-clause-some : goal.next_interval-next-requires-clause-some
+next_interval-next-requires-clause-some c =
     let leaders = (related c.args.nums.now c.requires.numbers).sized.leaders in
-    let is = c.from-leaders.ensures in
-    omega arith
-
-pub next_interval-next-requires-clause-few : goal.next_interval-next-requires-clause-few
-next_interval-next-requires-clause-few c =
-    let leaders = (related c.args.nums.now c.requires.numbers).sized.most_leaders in
     let is = c.from-leaders.ensures in
     omega arith
 
