@@ -14,7 +14,7 @@ ghost use Rattle.shared_board.specs.GroupVotes.{AreBelow, AreLies, beat_of_lead}
 use crate::group::Group;
 use crate::hearing::Hearing;
 use crate::locks::is_locked_at;
-use crate::obeying::{is_king_open, is_test_open, locked_next, obey};
+use crate::obeying::{is_test_open, locked_next, obey};
 use crate::polls::SharedTally;
 use crate::readings::{Parts, Pointers};
 use crate::senders::Senders;
@@ -233,8 +233,7 @@ impl Group {
             return true;
         };
         if beat % 3 == 2 {
-            let king = group.node((beat / 3) as usize);
-            return is_king_open(senders, own, king, node);
+            return group.is_king_open(own, (beat / 3) as usize, node);
         }
         let need = (nums.nodes - nums.faults) as usize;
         let test = is_test_open(self.values.count_of(own.a), group.liars(), need);

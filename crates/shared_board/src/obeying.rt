@@ -11,7 +11,7 @@ ghost use Rattle.shared_board.specs.GroupVotes.{AreNumbers};
 use crate::hearing::Hearing;
 use crate::laying::Lies;
 use crate::polls::SharedTally;
-use crate::senders::Senders;
+use crate::stretches::NodeRange;
 use majority_votes::Steps;
 use phase_king::king_step;
 use plan_numbers::LevelNums;
@@ -30,20 +30,25 @@ pub(crate) fn locked_next(value: u64, modulus: u64) -> Reg
     }
 }
 
-/// Whether a register may hang on what its king says: not if it is locked, if the king is correct,
-/// or if it is that of the king.
-pub(crate) fn is_king_open(senders: &Senders<'_>, own: Reg, king: usize, node: usize) -> bool
-    requires { king < length senders.now.registers }
-    ensures { result ≡ false → ((value : ℕ) × (own ≡ locked_at value))
-        ⊎ ((is_liar senders.now king ≡ false) ⊎ (king ≡ node)) }
-{
-    if own.d && own.a.is_some() {
-        return false;
-    }
-    if senders.is_liar(king) {
-        king != node
-    } else {
-        false
+impl NodeRange<'_> {
+    /// Whether the register of a node may hang on what the king at a place says: not if it is
+    /// locked, if the king is correct, or if the node is the king.
+    pub fn is_king_open(&self, own: Reg, place: usize, node: usize) -> bool
+        requires { place < self.now.count }
+        ensures { let king = self.now.first + place in
+            result ≡ false → ((value : ℕ) × (own ≡ locked_at value))
+            ⊎ ((is_liar self.now.senders.now king ≡ false) ⊎ (king ≡ node)) }
+    {
+        if own.d && own.a.is_some() {
+            return false;
+        }
+        let _nodes = self.senders.len();
+        let king = self.first + place;
+        if self.senders.is_liar(king) {
+            king != node
+        } else {
+            false
+        }
     }
 }
 

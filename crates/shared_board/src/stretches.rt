@@ -38,15 +38,6 @@ impl NodeRange<'_> {
         self.first + self.count
     }
 
-    /// The node at a place of it.
-    pub fn node(&self, i: usize) -> usize
-        requires { i < self.now.count }
-        ensures { result ≡ self.now.first + i }
-    {
-        let _nodes = self.senders.len();
-        self.first + i
-    }
-
     /// How many of its nodes are liars.
     pub fn liars(&self) -> usize
         ensures { result ≡ liars_in self.now.senders.now self.now.first self.now.count }

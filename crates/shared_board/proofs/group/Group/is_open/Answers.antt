@@ -1,5 +1,5 @@
-use Rattle.std.proofs.Common.{◌≡◌, ℕ, ◌+◌, ◌-◌, ◌%◌, ◌<◌, ◌≤◌, ◌⊎◌, ◌∙◌, IfSome, true, false}
-use Rattle.std.proofs.Common.{Option, Some, None, is_some, not, refl, ap, sym, subst, arith}
+use Rattle.std.proofs.Common.{◌≡◌, ℕ, ◌+◌, ◌-◌, ◌/◌, ◌%◌, ◌<◌, ◌≤◌, ◌⊎◌, ◌∙◌, IfSome, true}
+use Rattle.std.proofs.Common.{false, Option, Some, None, is_some, not, refl, ap, sym, subst, arith}
 use Rattle.std.proofs.Math.Nat.{mod-lt}
 use Rattle.std.proofs.lemmas.Bool.{false≢true, true≢false}
 use Rattle.sync_types.specs.declared.states.Reg.{Reg}
@@ -59,22 +59,6 @@ kind_one beat two zeroth = let three : 0 < 3 =
     omega arith in grind (arith, mod-lt beat three, two, zeroth)
 
 -- the king is a node of the group
-pub node-king-requires : goal.node-king-requires
-node-king-requires c =
-    let group = c.args.self.now in
-    let nums = group.nums in
-    let s = c.args.senders.now in
-    let counted = c.requires.stands.counted c.if-self.false in
-    let beat : ℕ = c.in-Some-beat.beat in
-    let known : IsKnown s (beat_of_lead s (contents group)) (Some beat) =
-    subst (λ o. IsKnown s (beat_of_lead s (contents group)) o) c.in-Some-beat.is counted.beat in
-    omega (
-      arith,
-      king_inside s
-          (contents group) c.requires.stands.room c.requires.stands.within beat known,
-      c.requires.stands.within,
-    )
-
 pub is_king_open-requires : goal.is_king_open-requires
 is_king_open-requires c =
     let group = c.args.self.now in
@@ -89,7 +73,6 @@ is_king_open-requires c =
       king_inside s
           (contents group) c.requires.stands.room c.requires.stands.within beat known,
       c.requires.stands.within,
-      c.node-king.ensures,
     )
 
 -- kind 2: the king cannot decide it
@@ -102,11 +85,10 @@ returns-then-beat-eq2 c = λ e lies told is_lies is_told own_lies own_told.
     let beat : ℕ = c.in-Some-beat.beat in
     let known : IsKnown s (beat_of_lead s (contents group)) (Some beat) =
     subst (λ o. IsKnown s (beat_of_lead s (contents group)) o) c.in-Some-beat.is counted.beat in
-    let shut = subst (λ k. ((value : ℕ) × (register_of s c.args.node ≡ locked_at value))
-    ⊎ ((is_liar s k ≡ false) ⊎ (k ≡ c.args.node))) c.node-king.ensures
-    (subst (λ r. ((value : ℕ) × (r ≡ locked_at value))
-    ⊎ ((is_liar s c.node-king.result ≡ false) ⊎ (c.node-king.result ≡ c.args.node)))
-    c.register-own.ensures (c.is_king_open.ensures e)) in
+    let king : ℕ = group.first + beat / 3 in
+    let shut = subst (λ r. ((value : ℕ) × (r ≡ locked_at value))
+    ⊎ ((is_liar s king ≡ false) ⊎ (king ≡ c.args.node)))
+    c.register-own.ensures (c.is_king_open.ensures e) in
     two_shut s (contents group) c.requires.stands.room c.requires.stands.within beat known
     c.args.node lies told is_lies is_told c.if-beat-eq2.true own_lies own_told shut
 

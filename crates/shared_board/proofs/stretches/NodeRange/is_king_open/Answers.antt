@@ -1,6 +1,6 @@
 use Rattle.std.proofs.Common.{inl, ◌∙◌, sym}
 use Rattle.phase_king.proofs.LockedRegisters.{locked_by}
-use Rattle.shared_board.proofs.obeying.is_king_open.Goals as goal
+use Rattle.shared_board.proofs.stretches.NodeRange.is_king_open.Goals as goal
 
 -- the register is locked
 pub returns-then-is_some : goal.returns-then-is_some
