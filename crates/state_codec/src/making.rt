@@ -10,6 +10,14 @@ use plan_numbers::Plan;
 use std::alloc::Global;
 use sync_types::NoMemory;
 
+/// The moduli of the registers of a shape, the lowest first.
+#[derive(Drop)]
+pub struct Moduli {
+    pub items: Vec<u64>,
+    ghost limits: { All (λ modulus. (2 ≤ modulus) × (modulus ≤ 2 ^ 40)) items.items },
+    ghost few: { length items.items ≤ 16 },
+}
+
 /// The moduli of a plan's levels, the lowest first.
 pub fn level_moduli(alloc: Global, plan: &Plan) -> Result<Vec<u64>, NoMemory>
     ensures value { IfOk result (λ moduli. moduli.items ≡ moduli_of plan.now.levels) }
@@ -68,11 +76,9 @@ fn moduli_from(alloc: Global, low: usize, moduli: &[u64]) -> Result<Vec<u64>, No
 
 /// The fields for each low up to a plan's depth.
 #[tactic(auto, using(crate::proofs::Lows::made_more))]
-pub fn kinds(alloc: Global, plan: &Plan, moduli: &[u64]) -> Result<Vec<Fields>, NoMemory>
-    requires moduli { All (λ modulus. (2 ≤ modulus) × (modulus ≤ 2 ^ 40)) moduli.now }
-    requires few { length moduli.now ≤ 16 }
+pub fn kinds(alloc: Global, plan: &Plan, moduli: &Moduli) -> Result<Vec<Fields>, NoMemory>
     ensures { IfOk result (λ kinds. kinds.items
-        ≡ map (fields_from (all_over plan.now moduli.now))
+        ≡ map (fields_from (all_over plan.now moduli.now.items.items))
         (range_with_len 0 (plan_depth plan.now + 1))) }
 {
     plan.facts();
@@ -81,7 +87,7 @@ pub fn kinds(alloc: Global, plan: &Plan, moduli: &[u64]) -> Result<Vec<Fields>, 
     let mut kinds = Vec::with_capacity(alloc, lows)?;
     for low in 0..lows {
         let own = base_from(low, base);
-        let fields = Fields::new(alloc, own, moduli_from(alloc, low, moduli)?)?;
+        let fields = Fields::new(alloc, own, moduli_from(alloc, low, &moduli.items)?)?;
         kinds.push(fields).map_err(|_| NoMemory)?;
     }
     Ok(kinds)

@@ -8,7 +8,7 @@ ghost use Rattle.state_codec.specs.Writing.{written};
 ghost use Rattle.state_codec.specs.Reading.{read};
 
 use crate::fields::Fields;
-use crate::making::{copies, kind_among, kinds, level_moduli, node_lows};
+use crate::making::{Moduli, copies, kind_among, kinds, level_moduli, node_lows};
 use plan_numbers::Plan;
 use std::alloc::Global;
 use std::marker::Model;
@@ -61,8 +61,8 @@ impl StateShape {
         ensures nodes { IfOk result (λ shape. shape_nodes shape ≡ plan_nodes plan.now) }
     {
         plan.facts();
-        let moduli = level_moduli(alloc, plan)?;
-        StateShape::over(alloc, plan, moduli)
+        let items = level_moduli(alloc, plan)?;
+        StateShape::over(alloc, plan, Moduli { items })
     }
 
     /// The shape of a plan's states with one further register after the plan's, which every node
@@ -90,21 +90,19 @@ impl StateShape {
         requires few { count ≤ 2 }
         ensures { IfOk result (λ shape. shape ≡ shape_with plan.now values count) }
     {
-        let mut moduli = level_moduli(alloc, plan)?;
+        let mut items = level_moduli(alloc, plan)?;
         for _ in 0..count {
-            moduli.push(values).map_err(|_| NoMemory)?;
+            items.push(values).map_err(|_| NoMemory)?;
         }
-        StateShape::over(alloc, plan, moduli)
+        StateShape::over(alloc, plan, Moduli { items })
     }
 
     /// A shape of these registers over a plan's number.
-    fn over(alloc: Global, plan: &Plan, moduli: Vec<u64>) -> Result<StateShape, NoMemory>
-        requires moduli { All (λ modulus. (2 ≤ modulus) × (modulus ≤ 2 ^ 40)) moduli.items }
-        requires few { length moduli.items ≤ 16 }
-        ensures { IfOk result (λ shape. shape ≡ shape_over plan.now moduli.items) }
+    fn over(alloc: Global, plan: &Plan, moduli: Moduli) -> Result<StateShape, NoMemory>
+        ensures { IfOk result (λ shape. shape ≡ shape_over plan.now moduli.items.items) }
     {
         plan.facts();
-        let depth = moduli.len();
+        let depth = moduli.items.len();
         let kinds = kinds(alloc, plan, &moduli)?;
         let which = node_lows(alloc, plan)?;
         Ok(StateShape {

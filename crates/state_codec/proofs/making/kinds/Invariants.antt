@@ -5,4 +5,5 @@ use Rattle.state_codec.proofs.making.kinds.Given as goal
 
 abbrev pub invariant-loop-low : goal.invariant-loop-low
 invariant-loop-low l =
-    l.kinds.items ≡ map (fields_from (all_over l.plan l.moduli)) (range_with_len 0 l.low)
+    l.kinds.items
+    ≡ map (fields_from (all_over l.plan l.moduli.items.items)) (range_with_len 0 l.low)
