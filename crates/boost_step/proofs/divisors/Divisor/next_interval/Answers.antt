@@ -13,9 +13,9 @@ invariant_of-result c =
     let some : 1 * 1 ≤ d * m = mul-le-mul c.self.invariant.0 two in
     let less : f - 1 ≡ 4294967295 / d = omega (arith, c.self.invariant.1) in
     let rest : c.if-leaders-eq2.rest ≡ (f - 1) / m = elim c.if-leaders-eq2.branch [
-      then-leaders-eq2 w ↦
-        w.rest-is ∙ ap (λ (l : ℕ). (f - 1) / (2 * l)) (sym w.if-leaders-eq2.true)
-    | else-leaders-eq2 w ↦ w.rest-is
+      | then-leaders-eq2 w ↦
+          w.rest-is ∙ ap (λ (l : ℕ). (f - 1) / (2 * l)) (sym w.if-leaders-eq2.true)
+      | else-leaders-eq2 w ↦ w.rest-is
     ] in (
       some,
       ap (λ (q : ℕ). q + 1) (rest ∙ ap (λ (g : ℕ). g / m) less)
