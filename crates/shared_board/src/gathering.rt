@@ -1,9 +1,8 @@
-ghost use Rattle.std.specs.Prelude.{◌≡◌, ◌+◌, ◌*◌, ◌%◌, ◌<◌, ◌≤◌, ℕ, max, length, slice_index_or};
+ghost use Rattle.std.specs.Prelude.{◌≡◌, ◌+◌, ◌*◌, ◌%◌, ◌<◌, ◌≤◌, max, length};
 ghost use Rattle.std.specs.Prelude.{IfSome};
 ghost use Rattle.counting.specs.Values.{count_of, least_above};
-ghost use Rattle.majority_votes.specs.Votes.{Votes};
-ghost use Rattle.shared_board.specs.Senders.{correct_in, parts_of, values_of, values_heard};
-ghost use Rattle.shared_board.specs.Votes.{IsKnown, IsBeat, IsLead, AreVotes, AreAsked, HasVotesIn};
+ghost use Rattle.shared_board.specs.Senders.{correct_in, values_of, values_heard};
+ghost use Rattle.shared_board.specs.Votes.{IsKnown, IsBeat, IsLead, AreAsked, HasVotesIn};
 ghost use Rattle.shared_board.specs.Votes.{HasRoomIn};
 
 use crate::polls::SharedTally;

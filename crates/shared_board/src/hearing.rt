@@ -1,10 +1,8 @@
-ghost use Rattle.std.specs.Prelude.{◌≡◌, ◌+◌, ◌-◌, ◌/◌, ◌<◌, ◌≤◌, length, take, drop};
+ghost use Rattle.std.specs.Prelude.{◌≡◌, ◌+◌, ◌-◌, ◌/◌, ◌<◌, ◌≤◌, length};
 ghost use Rattle.std.proofs.Props.{props};
-ghost use Rattle.sync_types.specs.States.{register_at};
-ghost use Rattle.construction.specs.Steps.{state_of};
 ghost use Rattle.shared_board.specs.Senders.{IsTold, lies_in, value_heard};
 ghost use Rattle.shared_board.specs.Votes.{IsMost, most_heard};
-ghost use Rattle.shared_board.specs.GroupVotes.{AreNumbers, AreBelow, AreLies};
+ghost use Rattle.shared_board.specs.GroupVotes.{AreNumbers, AreLies};
 
 use crate::laying::Lies;
 use crate::polls::SharedTally;

@@ -1,15 +1,13 @@
-ghost use Rattle.std.specs.Prelude.{◌≡◌, ◌+◌, ◌-◌, ◌/◌, ◌%◌, ◌<◌, ◌≤◌, ◌++◌, ◌⊎◌, ℕ, length, map};
-ghost use Rattle.std.specs.Prelude.{All, IfSome, None, false, nat_le, if◌then◌else◌};
+ghost use Rattle.std.specs.Prelude.{◌≡◌, ◌+◌, ◌-◌, ◌/◌, ◌%◌, ◌<◌, ◌≤◌, ◌⊎◌, ℕ};
+ghost use Rattle.std.specs.Prelude.{None, false, nat_le, if◌then◌else◌};
 ghost use Rattle.std.proofs.Props.{props};
-ghost use Rattle.counting.specs.Values.{count_of, least_above};
-ghost use Rattle.sync_types.specs.States.{register_at};
+ghost use Rattle.counting.specs.Values.{least_above};
 ghost use Rattle.construction.specs.PhaseKing.{incremented, instructed, locked_at, up};
 ghost use Rattle.shared_board.specs.Senders.{is_liar, liars_in, values_heard, values_of};
 ghost use Rattle.shared_board.specs.Votes.{IsKnown};
 ghost use Rattle.shared_board.specs.GroupVotes.{AreNumbers};
 
 use crate::hearing::Hearing;
-use crate::laying::Lies;
 use crate::polls::SharedTally;
 use crate::stretches::NodeRange;
 use majority_votes::Steps;

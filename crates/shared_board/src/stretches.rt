@@ -1,4 +1,4 @@
-ghost use Rattle.std.specs.Prelude.{◌≡◌, ◌+◌, ◌<◌, ◌≤◌, ◌++◌, ◌↔◌, ℕ, false, length, IsTrue};
+ghost use Rattle.std.specs.Prelude.{◌≡◌, ◌+◌, ◌<◌, ◌≤◌, ◌↔◌, ℕ, false, length, IsTrue};
 ghost use Rattle.std.specs.Prelude.{None, slice_index_or};
 ghost use Rattle.shared_board.specs.Senders.{is_liar, output_of, correct_in, liars_in, values_of};
 ghost use Rattle.shared_board.specs.Senders.{numbers_of};
