@@ -17,12 +17,7 @@ fn a_spare_steps_at_its_level_alone(rt: HostRuntime) -> Result<(), Fail> {
     let boost = Boost::new(Trivial::new(576), 3, 1, 10, 1).unwrap();
     let mut work = Work::new(rt.alloc(), 4)?;
     let mut out = NodeState::zero(rt.alloc(), 1)?;
-    let mut states = [
-        NodeState::zero(rt.alloc(), 1)?,
-        NodeState::zero(rt.alloc(), 1)?,
-        NodeState::zero(rt.alloc(), 1)?,
-        NodeState::zero(rt.alloc(), 1)?,
-    ];
+    let mut states = NodeState::zeros(rt.alloc(), 4, 1)?;
     states[3].set_reg(0, plain(Some(7)));
     let heard = Heard::of(&states);
     assert!(rt; boost.output(3, heard.state(3)) == 7);
@@ -33,14 +28,17 @@ fn a_spare_steps_at_its_level_alone(rt: HostRuntime) -> Result<(), Fail> {
     Ok(())
 }
 
+/// A place of thirteen nodes, and the lowest level in which the node there takes part.
+const LOWEST: [(u32, usize); 6] = [(0, 0), (3, 1), (6, 0), (7, 1), (11, 1), (12, 2)];
+
 #[test]
 fn levels_stand_on_levels(rt: HostRuntime) {
     let below = Boost::new(Trivial::new(576), 3, 1, 960, 1).unwrap();
     let boost = Boost::new(below, 3, 3, 10, 1).unwrap();
     assert!(rt; boost.nodes() == 13 && boost.faults() == 3 && boost.depth() == 2);
     assert!(rt; boost.modulus() == 10 && boost.bound() == 1536);
-    for (place, low) in [(0, 0), (3, 1), (6, 0), (7, 1), (11, 1), (12, 2)] {
-        assert!(rt; boost.low(place) == low, "node {place}");
+    for row in &LOWEST {
+        assert!(rt; boost.low(row.0 % 13) == row.1, "node {}", row.0);
     }
 }
 

@@ -179,12 +179,7 @@ fn nodes_stand_in_groups_and_blocks(rt: HostRuntime) {
 
 #[test]
 fn a_block_is_heard_alone(rt: HostRuntime) -> Result<(), Fail> {
-    let mut states = [
-        NodeState::zero(rt.alloc(), 0)?,
-        NodeState::zero(rt.alloc(), 0)?,
-        NodeState::zero(rt.alloc(), 0)?,
-        NodeState::zero(rt.alloc(), 0)?,
-    ];
+    let mut states = NodeState::zeros(rt.alloc(), 4, 0)?;
     states[3].set_x(9);
     let block = Heard::of(&states).block(1, 2);
     assert!(rt; block.len() == 2);

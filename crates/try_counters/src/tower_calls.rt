@@ -120,12 +120,7 @@ fn state(alloc: Global, x: u64, value: Option<u64>) -> Result<NodeState, NoMemor
 fn four_nodes_step_together(rt: HostRuntime) -> Result<(), Fail> {
     let tower = four(rt.alloc())?;
     assert!(rt; has_numbers(&tower, 4, 1, 1, 2304));
-    let mut states = [
-        NodeState::zero(rt.alloc(), 1)?,
-        NodeState::zero(rt.alloc(), 1)?,
-        NodeState::zero(rt.alloc(), 1)?,
-        NodeState::zero(rt.alloc(), 1)?,
-    ];
+    let mut states = NodeState::zeros(rt.alloc(), 4, 1)?;
     states[3].set_reg(0, plain(Some(7)));
     assert!(rt; tower.output(3, &states[3]) == 7);
     let out = stepped(rt.alloc(), &tower, 0, &states)?;
@@ -194,41 +189,34 @@ fn a_spare_votes_for_nothing_and_is_counted(rt: HostRuntime) -> Result<(), Fail>
     Ok(())
 }
 
-/// In each row: a place, and the new number and registers of the node there.
+/// A place of thirteen nodes, the lowest level in which the node there takes part, and its new
+/// number and values.
+type Spared = (u32, usize, u64, Option<u64>, Option<u64>);
+
+const SPARED: [Spared; 5] = [
+    (0, 0, 1, Some(1), Some(1)),
+    (3, 1, 0, None, Some(1)),
+    (6, 0, 1, Some(1), Some(1)),
+    (7, 1, 0, Some(1), Some(1)),
+    (12, 2, 0, Some(0), None),
+];
+
 #[test]
 fn each_level_has_its_own_spares(rt: HostRuntime) -> Result<(), Fail> {
     let tower = thirteen(rt.alloc())?;
     assert!(rt; has_numbers(&tower, 13, 3, 2, 1536));
-    let mut states = [
-        NodeState::zero(rt.alloc(), 2)?,
-        NodeState::zero(rt.alloc(), 2)?,
-        NodeState::zero(rt.alloc(), 2)?,
-        NodeState::zero(rt.alloc(), 2)?,
-        NodeState::zero(rt.alloc(), 2)?,
-        NodeState::zero(rt.alloc(), 2)?,
-        NodeState::zero(rt.alloc(), 2)?,
-        NodeState::zero(rt.alloc(), 2)?,
-        NodeState::zero(rt.alloc(), 2)?,
-        NodeState::zero(rt.alloc(), 2)?,
-        NodeState::zero(rt.alloc(), 2)?,
-        NodeState::zero(rt.alloc(), 2)?,
-        NodeState::zero(rt.alloc(), 2)?,
-    ];
+    let mut states = NodeState::zeros(rt.alloc(), 13, 2)?;
     // the spares of the first block and of the whole have other values than the rest
     states[3].set_reg(0, plain(Some(7)));
     states[12].set_reg(1, plain(Some(5)));
-    for (place, low, x, first, second) in [
-        (0, 0, 1, Some(1), Some(1)),
-        (3, 1, 0, None, Some(1)),
-        (6, 0, 1, Some(1), Some(1)),
-        (7, 1, 0, Some(1), Some(1)),
-        (12, 2, 0, Some(0), None),
-    ] {
-        assert!(rt; tower.low(place) == low, "node {place}");
+    for row in &SPARED {
+        let place = row.0 % 13;
+        assert!(rt; tower.low(place) == row.1, "node {}", row.0);
         let out = stepped(rt.alloc(), &tower, place, &states)?;
         assert!(rt;
-            has_both(&out, x, plain(first), plain(second)),
-            "node {place}"
+            has_both(&out, row.2, plain(row.3), plain(row.4)),
+            "node {}",
+            row.0
         );
     }
     Ok(())
@@ -263,19 +251,10 @@ fn heard_step(alloc: Global, tower: &Tower, node: u32, value: u64) -> Result<Nod
     requires node { node < 9 }
     ensures { IfOk result (λ out. length out.registers ≡ 2) }
 {
-    let heard = [
-        NodeState::zero(alloc, 2)?,
-        lie(alloc, value)?,
-        NodeState::zero(alloc, 2)?,
-        NodeState::zero(alloc, 2)?,
-        NodeState::zero(alloc, 2)?,
-        NodeState::zero(alloc, 2)?,
-        NodeState::zero(alloc, 2)?,
-        NodeState::zero(alloc, 2)?,
-        NodeState::zero(alloc, 2)?,
-    ];
-    let out = stepped(alloc, tower, node, &heard)?;
-    Ok(out)
+    let lie = lie(alloc, value)?;
+    let mut heard = NodeState::zeros(alloc, 9, 2)?;
+    heard[1] = lie;
+    stepped(alloc, tower, node, &heard)
 }
 
 /// A configuration of a counter, in which one node lies, and another node.
