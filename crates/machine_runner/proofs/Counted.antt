@@ -1,14 +1,14 @@
 -- What is known of a runner whose correct nodes count.
 use Rattle.std.proofs.Common.{◌≡◌, ◌≢◌, ℕ, suc, ◌+◌, ◌-◌, ◌%◌, ◌<◌, ◌≤◌, inl, inr, Bool, true}
-use Rattle.std.proofs.Common.{false, ◌&&◌, cond, eqb, List, length, Option, Some, None, refl, sym}
+use Rattle.std.proofs.Common.{false, ◌&&◌, eqb, List, length, Option, Some, None, refl, sym}
 use Rattle.std.proofs.Common.{ap, ap₂, ◌∙◌, subst, arith}
-use Rattle.std.specs.Prelude.{is_some, codes}
+use Rattle.std.specs.Prelude.{is_some}
 use Rattle.std.proofs.lemmas.Bool.{true≢false, and_parts, cases_eq, cases_lt, eqb-true}
 use Rattle.std.proofs.lemmas.Bool.{eq-eqb, ne_eqb}
 use Rattle.sync_types.specs.FaultSets.{is_in}
 use Rattle.construction.specs.Steps.{state_of}
 use Rattle.adversary_script.specs.Scripts.{Script, IsScript}
-use Rattle.adversary_script.specs.Eras.{era_of, first_of_era, end_of_era, faulty_of_era, faulty_at}
+use Rattle.adversary_script.specs.Eras.{era_of, end_of_era, faulty_of_era, faulty_at}
 use Rattle.machines.specs.Machines.{Machine, AllShow, IsLocked}
 use Rattle.machines.specs.Laws.{IsSound}
 use Rattle.machine_runner.specs.Laws.{IsReadFor, EraCountsFrom}

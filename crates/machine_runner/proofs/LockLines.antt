@@ -1,10 +1,9 @@
 -- The lines of the first locked configurations.
-use Rattle.std.proofs.Common.{◌≡◌, ◌≢◌, ℕ, ◌+◌, Bool, cond, List, [], ◌++◌, length, Option, Result}
-use Rattle.std.proofs.Common.{sym, ap, ◌∙◌, subst, append-nil}
+use Rattle.std.proofs.Common.{◌≡◌, ◌≢◌, ℕ, ◌+◌, Bool, cond, List, length, Option}
+use Rattle.std.proofs.Common.{sym, ap, ◌∙◌}
 use Rattle.std.specs.List.{flat_map, range_with_len}
 use Rattle.std.proofs.lemmas.Bool.{eq-eqb, ne_eqb}
 use Rattle.adversary_script.specs.Scripts.{Script}
-use Rattle.texts.specs.Growth.{SinkState, Puts}
 use Rattle.machine_runner.specs.RunTexts.{locked_line, era_line, lock_lines}
 
 module _ (script : Script) (lock_of_era : ℕ → Option ℕ) (version : ℕ)

@@ -3,7 +3,7 @@ ghost use Rattle.sync_types.specs.FaultSets.{is_in};
 ghost use Rattle.adversary_script.specs.Eras.{faulty_at};
 ghost use Rattle.machines.specs.Machines.{AllShow};
 ghost use Rattle.machine_runner.specs.Runners.{states_of};
-ghost use Rattle.machine_runner.specs.Counting.{is_counting, Knows, Shows};
+ghost use Rattle.machine_runner.specs.Counting.{is_counting, Knows};
 
 use crate::Runner;
 use machines::Machine;
@@ -40,7 +40,7 @@ pub fn play_to<M: Machine>(runner: &mut Runner<'_, M>, end: u64)
 }
 
 /// What the correct nodes show if they show one number, below 2^40. It is 0 if no node is correct.
-fn lead_output<M: Machine>(runner: &Runner<'_, M>) -> u64
+pub(crate) fn lead_output<M: Machine>(runner: &Runner<'_, M>) -> u64
     ensures shown { (output v : ℕ) → AllShow (M.machine runner.now.machine)
         (faulty_at runner.now.script runner.now.at) (states_of M.machine runner.now) output
         → v < (M.machine runner.now.machine).nodes
@@ -54,17 +54,4 @@ fn lead_output<M: Machine>(runner: &Runner<'_, M>) -> u64
         }
     }
     0
-}
-
-/// What the correct nodes show in configuration `t`, at or after the runner's: if it is another
-/// one, they count.
-pub(crate) fn counted_output<M: Machine>(runner: &Runner<'_, M>, t: u64) -> u64
-    requires knows { Knows M.machine runner.now t }
-    requires from { runner.now.at ≤ t }
-    requires within { t ≤ runner.now.script.rounds }
-    ensures { Shows M.machine runner.now t result }
-{
-    runner.facts();
-    let _rounds = runner.script().rounds();
-    (lead_output(runner) + (t - runner.at())) % runner.machine().modulus()
 }

@@ -1,25 +1,11 @@
-ghost use Rattle.std.specs.Prelude.{◌≤◌, length};
 ghost use Rattle.edge_io.specs.Writing.{Writes};
-ghost use Rattle.machine_runner.specs.RunTexts.{era_line, lock_lines};
+ghost use Rattle.machine_runner.specs.RunTexts.{lock_lines};
 ghost use Rattle.machine_runner.specs.ShownTexts.{lock_played};
 ghost use Rattle.machine_runner.specs.Counting.{Knows};
 
-use crate::{Runner, put_locked};
+use crate::{Runner, put_era, put_locked};
 use edge_io::{Sink, Writer};
 use machines::Machine;
-
-/// Writes the line of an era, of a runner that is at the last configuration or counts.
-fn put_era<K: Sink, M: Machine>(writer: &mut Writer<'_, K>, runner: &Runner<'_, M>, era: usize)
-    requires knows { Knows M.machine runner.now runner.now.script.rounds }
-    requires among { era ≤ length runner.now.script.eras }
-    ensures { Writes K.told (era_line runner.now.script
-        (lock_played (M.machine runner.now.machine) runner.now.script) era)
-        writer.old writer.new }
-{
-    runner.facts();
-    let first = runner.script().era_start(era);
-    crate::put_era(writer, first, runner.lock_of(era));
-}
 
 /// Writes the first locked configuration of each era, of a runner that is at the last configuration
 /// or counts.
@@ -35,6 +21,7 @@ pub(crate) fn put_locks<K: Sink, M: Machine>(writer: &mut Writer<'_, K>, runner:
         return;
     }
     for era in 0..runner.script().eras() {
-        put_era(writer, runner, era);
+        let first = runner.script().era_start(era);
+        put_era(writer, first, runner.lock_of(era));
     }
 }

@@ -9,7 +9,7 @@ use crate::leading::play_to;
 use crate::lines::ShownLines;
 use crate::lock_lines::put_locks;
 use crate::rows::Rows;
-use crate::words::put_line;
+use crate::words::Shown;
 use crate::{Runner, put_bound};
 use edge_io::{Sink, WriteFault, Writer};
 use machines::Machine;
@@ -35,31 +35,8 @@ fn put_lines<K: Sink, M: Machine, L: ShownLines>(
             return;
         }
         play_to(runner, t);
-        put_line(writer, runner, lines, t);
+        Shown::new(runner, t).put_line(writer, lines);
     }
-}
-
-/// Plays a script, to its end or until its correct nodes count, and writes the bound, the lines and
-/// the first locked configurations. It stops if a write failed.
-fn put_all<K: Sink, M: Machine, L: ShownLines>(
-    writer: &mut Writer<'_, K>,
-    runner: &mut Runner<'_, M>,
-    lines: &L,
-)
-    requires { runner.old.at ≡ 0 }
-    ensures { Writes K.told
-        (shown_text (L.front lines.now) (L.word lines.now) (M.machine runner.old.machine)
-        runner.old.script) writer.old writer.new }
-{
-    put_bound(writer, runner.machine().bound());
-    put_lines(writer, runner, lines);
-    if writer.has_failed() {
-        return;
-    }
-    runner.facts();
-    let rounds = runner.script().rounds();
-    play_to(runner, rounds);
-    put_locks(writer, runner);
 }
 
 /// Plays a script, and writes the machine's bound, the line of each configuration that is shown,
@@ -79,7 +56,14 @@ pub fn put_shown<K: Sink, M: Machine, L: ShownLines>(
         runner.old.script) (K.told sink.old) (K.told sink.new) }
 {
     let mut writer = Writer::new(sink);
-    put_all(&mut writer, runner, lines);
+    put_bound(&mut writer, runner.machine().bound());
+    put_lines(&mut writer, runner, lines);
+    if !writer.has_failed() {
+        runner.facts();
+        let rounds = runner.script().rounds();
+        play_to(runner, rounds);
+        put_locks(&mut writer, runner);
+    }
     writer.finish()
 }
 

@@ -46,6 +46,16 @@ pub struct Round<'a> {
     ghost behind: { BeginsAt script.now (t + 1) begins } by { is_prop script.now (t + 1) begins },
 }
 
+/// A node that steps in a round, from a configuration of the script's nodes.
+#[derive(Clone, Copy, Drop)]
+struct NodeStep<'a> {
+    round: &'a Round<'a>,
+    states: &'a Packed,
+    v: u32,
+    ghost node: { v < round.now.script.now.nodes },
+    ghost config: { IsConfiguration round.now.script.now states.now },
+}
+
 /// The further era that begins with configuration `t`, which is of that era, if one does.
 pub fn beginning_in(script: &Script, era: usize, t: u64) -> Option<usize>
     requires { era ≡ era_of script.now t }
@@ -106,36 +116,6 @@ impl Round<'_> {
         put_hit(self.script, self.t + 1, self.begins, v, out);
     }
 
-    /// The step of node `v`: its new state is written into the room.
-    fn step<M: Machine>(&self, machine: &M, v: u32, room: &mut RoundBuffers, states: &Packed)
-        requires read { IsReadFor (M.machine machine.now) self.now.script.now }
-        requires node { v < self.now.script.now.nodes }
-        requires config { IsConfiguration self.now.script.now states.now }
-        requires room { IsReady self.now.script.now room.old }
-        requires honest { AreHonest self.now.script.now self.now.t states.now.current
-            room.old.heard.items }
-        ensures state { room.new.out ≡ state_after (M.machine machine.now) self.now.script.now
-            self.now.t states.now.current v }
-        ensures range { InRange (fields_at self.now.script.now.shape v) room.new.out }
-        ensures room { IsReady self.now.script.now room.new }
-        ensures honest { AreHonest self.now.script.now self.now.t states.now.current
-            room.new.heard.items }
-    {
-        machine.facts();
-        states.facts();
-        let receiver = Receiver {
-            script: self.script,
-            faulty: self.faulty,
-            states,
-            t: self.t,
-            v,
-        };
-        receiver.hear(&mut room.noise, &mut room.heard);
-        let heard = Heard::of(&room.heard);
-        machine.advance(v, &heard, &mut room.work, &mut room.out);
-        self.put_at(v, &mut room.out);
-    }
-
     /// The steps of all nodes, from the current states to the next ones. If an era begins after the
     /// round, nodes are put into the states that it gives them.
     pub fn step_all<M: Machine>(&self, machine: &M, room: &mut RoundBuffers, states: &mut Packed)
@@ -151,8 +131,45 @@ impl Round<'_> {
         states.facts();
         lay(states, &mut room.heard);
         for v in 0..states.nodes() {
-            self.step(machine, v, room, &*states);
+            let turn = NodeStep {
+                round: &*self,
+                states: &*states,
+                v,
+            };
+            turn.step(machine, room);
             states.put(v, &room.out);
         }
+    }
+}
+
+impl NodeStep<'_> {
+    /// Its step: its new state is written into the room.
+    fn step<M: Machine>(&self, machine: &M, room: &mut RoundBuffers)
+        requires read { IsReadFor (M.machine machine.now) self.now.round.now.script.now }
+        requires room { IsReady self.now.round.now.script.now room.old }
+        requires honest { AreHonest self.now.round.now.script.now self.now.round.now.t
+            self.now.states.now.current room.old.heard.items }
+        ensures state { room.new.out ≡ state_after (M.machine machine.now)
+            self.now.round.now.script.now self.now.round.now.t self.now.states.now.current
+            self.now.v }
+        ensures range { InRange (fields_at self.now.round.now.script.now.shape self.now.v)
+            room.new.out }
+        ensures room { IsReady self.now.round.now.script.now room.new }
+        ensures honest { AreHonest self.now.round.now.script.now self.now.round.now.t
+            self.now.states.now.current room.new.heard.items }
+    {
+        machine.facts();
+        self.states.facts();
+        let receiver = Receiver {
+            script: self.round.script,
+            faulty: self.round.faulty,
+            states: self.states,
+            t: self.round.t,
+            v: self.v,
+        };
+        receiver.hear(&mut room.noise, &mut room.heard);
+        let heard = Heard::of(&room.heard);
+        machine.advance(self.v, &heard, &mut room.work, &mut room.out);
+        self.round.put_at(self.v, &mut room.out);
     }
 }

@@ -1,8 +1,9 @@
-use Rattle.std.proofs.Common.{◌≡◌, ℕ, ◌+◌, Option, length, ap, ◌∙◌, arith}
-use Rattle.std.specs.List.{flat_map, range_with_len}
+use Rattle.std.proofs.Common.{◌≡◌, ℕ, ◌+◌, [], ◌∷◌, Option, length, ap, ap₂, ◌∙◌, arith}
+use Rattle.std.specs.List.{concat, flat_map, range_with_len}
 use Rattle.edge_io.proofs.Writing.{writes_none, writes_next, writes_is}
 use Rattle.adversary_script.specs.Scripts.{Script}
-use Rattle.machine_runner.specs.RunTexts.{locked_line, era_line}
+use Rattle.adversary_script.specs.Eras.{first_of_era}
+use Rattle.machine_runner.specs.RunTexts.{locked_line, era_front, era_line}
 use Rattle.machine_runner.proofs.LockLines.{one_line, many}
 use Rattle.machine_runner.specs.ShownTexts.{lock_played}
 use Rattle.machine_runner.proofs.Counted.{known_at_end}
@@ -25,8 +26,15 @@ loop-era-init g c = writes_none
 pub loop-era-preserved : goal.loop-era-preserved
 loop-era-preserved g c =
     let r = c.args.runner.now in
+    let first = c.era_start-first.ensures
+    ∙ ap (λ (s : Script). first_of_era s c.loop-era.era) c.script-in-loop-era.ensures in
+    let known = c.lock_of-in-loop-era.ensures
+    ∙ known_at_end g.M.Machine.machine r c.facts.ensures.read.whole c.facts.ensures.within
+    c.requires c.loop-era.era in
     writes_next (era_line r.script (lock_played (g.M.Machine.machine r.machine) r.script)) 0
-    c.loop-era.era c.loop-era.era c.loop-era.invariant c.put_era.ensures (omega arith)
+    c.loop-era.era c.loop-era.era c.loop-era.invariant
+    (writes_is (ap₂ (λ (f : ℕ) (o : Option ℕ). concat (era_front f ∷ locked_line o ∷ [])) first
+    known) c.put_era.ensures) (omega arith)
 
 pub returns : goal.returns
 returns g c =

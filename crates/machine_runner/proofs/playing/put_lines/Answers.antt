@@ -1,5 +1,8 @@
-use Rattle.std.proofs.Common.{sym, ap, ◌∙◌, arith}
+use Rattle.std.proofs.Common.{ℕ, sym, ap, ap₂, ◌∙◌, arith}
 use Rattle.adversary_script.specs.Scripts.{Script}
+use Rattle.edge_io.proofs.Writing.{writes_is}
+use Rattle.machine_runner.specs.Runners.{Running}
+use Rattle.machine_runner.specs.ShownTexts.{shown_line}
 use Rattle.machine_runner.proofs.PlayedOn.{script_is}
 use Rattle.machine_runner.proofs.LinesSoFar.{lines_begin, lines_go_on, lines_stop, lines_end}
 use Rattle.machine_runner.proofs.playing.put_lines.Goals as goal
@@ -35,11 +38,16 @@ pub loop-t-preserved : goal.loop-t-preserved
 loop-t-preserved g c =
     let first = c.shown-first.ensures.first
     ∙ ap (λ (s : Script). s.first) c.script-script.ensures in
+    let front = g.L.ShownLines.front c.args.lines.now in
+    let word = g.L.ShownLines.word c.args.lines.now in
+    let line = writes_is (ap₂ (λ (r : Running _) (t : ℕ).
+    shown_line front word (g.M.Machine.machine r.machine) r.script t) c.new.ensures.runner
+    c.new.ensures.number) c.put_line.ensures in
     lines_go_on _ _ _ _ _ _ _ _ _ _ _ c.loop-t.invariant c.play_to.ensures.same
-    c.play_to.ensures.most (omega (arith, first, c.loop-t.auto.t)) c.put_line.ensures
+    c.play_to.ensures.most (omega (arith, first, c.loop-t.auto.t)) line
 
-pub put_line-requires-clause-within : goal.put_line-requires-clause-within
-put_line-requires-clause-within g c =
+pub new-requires-clause-within : goal.new-requires-clause-within
+new-requires-clause-within g c =
     let here = ap (λ (s : Script). s.rounds)
     (script_is c.args.runner.now _ _ c.loop-t.invariant.same) in
     let there = ap (λ (s : Script). s.rounds)

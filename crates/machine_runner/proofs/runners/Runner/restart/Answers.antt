@@ -1,4 +1,4 @@
-use Rattle.std.proofs.Common.{◌+◌, Bool, List, ◌∷◌, length, None, replicate, sym, ap, ◌∙◌, subst}
+use Rattle.std.proofs.Common.{◌+◌, Bool, ◌∷◌, length, None, replicate, sym, ap, ◌∙◌, subst}
 use Rattle.sync_types.specs.FaultSets.{FaultIds}
 use Rattle.adversary_script.specs.Scripts.{Script}
 use Rattle.machine_runner.specs.FirstLocked.{first_of}

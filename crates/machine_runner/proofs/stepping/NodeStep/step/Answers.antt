@@ -4,24 +4,25 @@ use Rattle.machines.specs.Machines.{IsConfiguration}
 use Rattle.machine_runner.proofs.HeardAt.{heard_is_one}
 use Rattle.machine_runner.specs.Hearing.{AreHonest}
 use Rattle.machine_runner.proofs.Keeping.{range_of}
-use Rattle.machine_runner.proofs.stepping.Round.step.Goals as goal
+use Rattle.machine_runner.proofs.stepping.NodeStep.step.Goals as goal
 
 pub advance-requires-clause-heard : goal.advance-requires-clause-heard
 advance-requires-clause-heard g c =
-    let script = c.args.self.now.script.now in
-    let config = c.args.states.now.current in
+    let script = c.args.self.now.round.now.script.now in
+    let states = c.args.self.now.states.now in
     let is = with_items_is c.args.room.now.heard c.hear.new.heard
     (c.hear.auto.heard ∙ c.deref_mut.ensures.len) in
     let same = c.of-heard.ensures ∙ (c.deref.ensures.value ∙ (is ∙ c.hear.ensures.heard)) in
     subst (IsConfiguration (g.M.Machine.machine c.args.machine.now)) (sym same)
-    (heard_is_one script c.args.self.now.t config c.args.v c.requires.node
-    (range_of c.args.states.now.shape script.shape script.nodes config c.requires.config.shape
-    c.requires.config.size c.facts-2.ensures.current)
+    (heard_is_one script c.args.self.now.round.now.t states.current c.args.self.now.v
+    c.args.self.now.node
+    (range_of states.shape script.shape script.nodes states.current c.args.self.now.config.shape
+    c.args.self.now.config.size c.facts-2.ensures.current)
     (g.M.Machine.machine c.args.machine.now) c.requires.read)
 
 pub returns-clause-honest : goal.returns-clause-honest
 returns-clause-honest g c =
     let is = with_items_is c.args.room.now.heard c.hear.new.heard
     (c.hear.auto.heard ∙ c.deref_mut.ensures.len) in
-    subst (AreHonest c.args.self.now.script.now c.args.self.now.t c.args.states.now.current)
-    (sym is) c.hear.ensures.honest
+    subst (AreHonest c.args.self.now.round.now.script.now c.args.self.now.round.now.t
+    c.args.self.now.states.now.current) (sym is) c.hear.ensures.honest
