@@ -5,13 +5,13 @@ use Rattle.sync_types.specs.States.{State}
 use Rattle.counter_core.specs.Overlays.{Layer}
 use Rattle.machines.specs.Machines.{Machine, IsState, IsConfiguration, IsTold, IsTable, Run}
 use Rattle.machines.specs.Machines.{IsToleratedBy}
-use Rattle.adversary_script.specs.Scripts.{Script, faulty_sets}
+use Rattle.adversary_script.specs.Scripts.{faulty_sets}
 use Rattle.adversary_script.specs.ScriptPart.{IsTolerated}
 use Rattle.layer_laws.specs.Counters as counters
 use Rattle.layer_laws.specs.Counters.{Bears}
 use Rattle.layer_runner.specs.Counters.{machine_counter}
 use Rattle.layer_runner.specs.Laws.{MachinesSettle, ReadersFit}
-use Rattle.layer_runner.specs.ReadOver.{IsShapeOver, IsReadWithLayer}
+use Rattle.layer_runner.specs.ReadOver.{IsShapeOver}
 
 -- ---- words of the machine's counter in the machine's words
 

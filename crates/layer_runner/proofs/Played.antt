@@ -15,7 +15,7 @@ use Rattle.machine_runner.specs.RunTexts as texts
 use Rattle.layer_laws.specs.Positions.{Position, IsBegun, advanced, played_to, configuration_in}
 use Rattle.layer_laws.proofs.Playing.{begins, plays_on}
 use Rattle.layer_runner.specs.LockTexts.{lock_lines}
-use Rattle.layer_runner.specs.PlayedTexts.{Wording, line_in, line_at}
+use Rattle.layer_runner.specs.PlayedTexts.{Wording, line_in, line_of, line_at}
 use Rattle.layer_runner.proofs.LockLines.{locks_listed}
 
 -- the faulty nodes that a script lends for a configuration
@@ -24,6 +24,14 @@ pub faulty_ids : (lent : FaultIds) (read script : Script) (t at : ℕ)
     → lent.ids ≡ faulty_at script at
 faulty_ids lent read script t at is same here =
     ap (λ (s : FaultIds). s.ids) is ∙ ap₂ (λ (s : Script) (t : ℕ). faulty_at s t) same here
+
+-- a line that is shown is the line that there is
+pub shown_line : {K Kept : Type 0} {told : K → SinkState} {old now : Writer K}
+    (wording : Wording Kept) (p : Position Kept) (shows : Bool)
+    → shows ≡ wording.shows p.counter p.script p.at p.scene → shows ≡ true
+    → Writes told (line_of wording p.counter p.script p.at p.scene) old now
+    → Writes told (line_at wording p) old now
+shown_line wording p shows is shown wrote = rw (sym is ∙ shown) wrote
 
 -- a line that is not shown is not written
 pub hidden_line : {K Kept : Type 0} {told : K → SinkState} {now : Writer K}

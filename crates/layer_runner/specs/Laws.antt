@@ -1,6 +1,6 @@
 -- What holds of the scenes that are played of a script that was read for a sound machine with a
 -- layer above.
-use Rattle.std.specs.Prelude.{◌≡◌, ℕ, ◌+◌, ◌<◌, ◌≤◌, ◌↔◌, List, length}
+use Rattle.std.specs.Prelude.{ℕ, ◌+◌, ◌<◌, ◌≤◌, ◌↔◌, List, length}
 use Rattle.sync_types.specs.States.{State}
 use Rattle.state_codec.specs.Shapes.{Shape, fields_at, shape_nodes}
 use Rattle.state_codec.specs.Ranges.{InRange}

@@ -32,19 +32,33 @@ pub fn lay_fronts(count: usize, states: &Packed, fronts: &mut [NodeState])
     }
 }
 
-/// Lays the fronts of what is heard of the faulty nodes, `count` registers of each, into their
-/// places. Those of the correct nodes stand there.
-pub fn lay_lies(faulty: &FaultSet, count: usize, heard: &[NodeState], fronts: &mut [NodeState])
-    requires nodes { length heard.now ≡ faulty.now.nodes }
-    requires deep { All (λ s. count ≤ length s.registers) heard.now }
-    requires room { HasFronts (length heard.now) count fronts.old }
-    requires honest { (u : ℕ) → u < length heard.now → is_in faulty.now.ids u ≡ false
-        → state_of fronts.old u ≡ cut count (state_of heard.now u) }
-    ensures { fronts.new ≡ map (cut count) heard.now }
-{
-    faulty.facts();
-    for i in 0..faulty.len() {
-        let u = faulty.at(i) as usize;
-        copy_front(count, &heard[u], &mut fronts[u]);
+/// What a node hears in a round, by place, of whose states the fronts are laid.
+#[derive(Clone, Copy, Drop)]
+pub struct HeardFronts<'a> {
+    /// The nodes that are faulty in the round.
+    pub faulty: &'a FaultSet,
+    /// How many registers a front has.
+    pub count: usize,
+    /// What is heard.
+    pub heard: &'a [NodeState],
+    ghost nodes: { length heard.now ≡ faulty.now.nodes },
+    ghost deep: { All (λ s. count ≤ length s.registers) heard.now },
+}
+
+impl HeardFronts<'_> {
+    /// Lays the fronts of what is heard of the faulty nodes into their places. Those of the correct
+    /// nodes stand there.
+    pub fn lay_lies(&self, fronts: &mut [NodeState])
+        requires room { HasFronts (length self.now.heard.now) self.now.count fronts.old }
+        requires honest { (u : ℕ) → u < length self.now.heard.now
+            → is_in self.now.faulty.now.ids u ≡ false
+            → state_of fronts.old u ≡ cut self.now.count (state_of self.now.heard.now u) }
+        ensures { fronts.new ≡ map (cut self.now.count) self.now.heard.now }
+    {
+        self.faulty.facts();
+        for i in 0..self.faulty.len() {
+            let u = self.faulty.at(i) as usize;
+            copy_front(self.count, &self.heard[u], &mut fronts[u]);
+        }
     }
 }

@@ -1,22 +1,11 @@
-ghost use Rattle.std.specs.Prelude.{◌≤◌, ℕ, None, length, slice_index_or};
+ghost use Rattle.std.specs.Prelude.{None, slice_index_or};
 ghost use Rattle.edge_io.specs.Writing.{Writes};
-ghost use Rattle.machine_runner.specs.RunTexts.{era_line, lock_lines};
+ghost use Rattle.machine_runner.specs.RunTexts.{lock_lines};
 
 use counter_core::Overlay;
 use edge_io::{Sink, Writer};
 use layer_laws::Play;
-use machine_runner::put_locked;
-
-/// Writes the line of an era, with its first locked configuration so far.
-fn put_era<K: Sink, O: Overlay, P: Play<O>>(writer: &mut Writer<'_, K>, play: &P, era: usize)
-    requires { era ≤ length (P.position play.now).script.eras }
-    ensures { Writes K.told (era_line (P.position play.now).script
-        (λ j. slice_index_or (P.position play.now).locks j None) era)
-        writer.old writer.new }
-{
-    let first = play.script().era_start(era);
-    machine_runner::put_era(writer, first, play.lock_of(era));
-}
+use machine_runner::{put_era, put_locked};
 
 /// Writes the first locked configuration so far of each era: for a script of version 1 one line,
 /// else one for each era, with the configuration that it begins with.
@@ -30,6 +19,7 @@ pub fn put_locks<K: Sink, O: Overlay, P: Play<O>>(writer: &mut Writer<'_, K>, pl
         return;
     }
     for era in 0..play.script().eras() {
-        put_era(writer, play, era);
+        let first = play.script().era_start(era);
+        put_era(writer, first, play.lock_of(era));
     }
 }

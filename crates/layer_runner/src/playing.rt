@@ -41,25 +41,6 @@ fn put_lines<K: Sink, O: Overlay, P: Play<O>, L: Lines<O>>(
     put_if_shown(writer, play, lines, &number);
 }
 
-/// Writes the bound, the lines that there are, and the first locked configurations. It stops if a
-/// write failed.
-fn put_all_lines<K: Sink, O: Overlay, P: Play<O>, L: Lines<O>>(
-    writer: &mut Writer<'_, K>,
-    play: &mut P,
-    lines: &L,
-)
-    requires { IsBegun (P.position play.old) }
-    ensures { Writes K.told (text_of (L.wording lines.now) (P.position play.old))
-        writer.old writer.new }
-{
-    put_bound(writer, play.bound());
-    put_lines(writer, play, lines);
-    if writer.has_failed() {
-        return;
-    }
-    put_locks(writer, play);
-}
-
 /// Plays all rounds of a script, and writes the bound, a line of each configuration that has one,
 /// and the first locked configuration of each era. It takes no memory.
 ///
@@ -75,6 +56,10 @@ pub fn put_played<K: Sink, O: Overlay, P: Play<O>, L: Lines<O>>(
         (K.told sink.old) (K.told sink.new) }
 {
     let mut writer = Writer::new(sink);
-    put_all_lines(&mut writer, play, lines);
+    put_bound(&mut writer, play.bound());
+    put_lines(&mut writer, play, lines);
+    if !writer.has_failed() {
+        put_locks(&mut writer, play);
+    }
     writer.finish()
 }

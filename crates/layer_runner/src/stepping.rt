@@ -14,7 +14,7 @@ ghost use Rattle.layer_runner.specs.Counters.{machine_counter};
 ghost use Rattle.layer_runner.specs.ReadOver.{IsReadWithLayer};
 ghost use Rattle.layer_runner.specs.Rooms.{IsReady, IsLaid};
 
-use crate::fronts::{copy_front, lay_lies};
+use crate::fronts::{HeardFronts, copy_front};
 use counter_core::{Heard, Overlay};
 use machine_runner::{Receiver, Round, RoundBuffers, lay};
 use machines::Machine;
@@ -68,8 +68,12 @@ fn hear<M: Machine>(turn: &NodeStep<'_>, machine: &M, room: &mut LayerBuffers)
         v: turn.v,
     };
     receiver.hear(&mut room.below.noise, &mut room.below.heard);
-    let depth = machine.depth();
-    lay_lies(round.faulty, depth, &room.below.heard, &mut room.fronts);
+    let heard = HeardFronts {
+        faulty: round.faulty,
+        count: machine.depth(),
+        heard: &room.below.heard,
+    };
+    heard.lay_lies(&mut room.fronts);
 }
 
 /// The machine's step of node `v`, from the fronts of what it hears: its new front is written into

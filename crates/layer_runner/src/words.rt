@@ -1,7 +1,7 @@
-ghost use Rattle.std.specs.Prelude.{◌≡◌, ◌<◌, true};
+ghost use Rattle.std.specs.Prelude.{◌≡◌};
 ghost use Rattle.edge_io.specs.Writing.{Writes};
-ghost use Rattle.machine_runner.specs.RunTexts.{word_or_star, words_of};
-ghost use Rattle.layer_runner.specs.PlayedTexts.{numbered, line_of, line_at};
+ghost use Rattle.machine_runner.specs.RunTexts.{words_of};
+ghost use Rattle.layer_runner.specs.PlayedTexts.{numbered, line_at};
 
 use crate::lines::Lines;
 use counter_core::Overlay;
@@ -9,28 +9,8 @@ use edge_io::{RisingText, Sink, Writer};
 use layer_laws::Play;
 use sync_types::FaultSet;
 
-/// Writes a node's word in the line of the play's configuration, or a star if it is one of these
-/// faulty ones.
-fn put_word<K: Sink, O: Overlay, P: Play<O>, L: Lines<O>>(
-    writer: &mut Writer<'_, K>,
-    play: &P,
-    lines: &L,
-    faulty: &FaultSet,
-    v: u32,
-)
-    requires { v < (P.position play.now).counter.nodes }
-    ensures { Writes K.told (word_or_star ((L.wording lines.now).word
-        (P.position play.now).counter (P.position play.now).scene) faulty.now.ids v)
-        writer.old writer.new }
-{
-    if faulty.contains(v) {
-        writer.text(b" *");
-    } else {
-        lines.put_word(writer, play, v);
-    }
-}
-
-/// Writes the words of all nodes.
+/// Writes the words of all nodes in the line of the play's configuration, a star of each that is
+/// one of these faulty ones.
 fn put_words<K: Sink, O: Overlay, P: Play<O>, L: Lines<O>>(
     writer: &mut Writer<'_, K>,
     play: &P,
@@ -42,27 +22,12 @@ fn put_words<K: Sink, O: Overlay, P: Play<O>, L: Lines<O>>(
         faulty.now.ids) writer.old writer.new }
 {
     for v in 0..play.nodes() {
-        put_word(writer, play, lines, faulty, v);
+        if faulty.contains(v) {
+            writer.text(b" *");
+        } else {
+            lines.put_word(writer, play, v);
+        }
     }
-}
-
-/// Writes the line of the play's configuration, whose number is this one.
-fn put_line<K: Sink, O: Overlay, P: Play<O>, L: Lines<O>>(
-    writer: &mut Writer<'_, K>,
-    play: &P,
-    lines: &L,
-    number: &RisingText,
-)
-    requires shown { (L.wording lines.now).shows (P.position play.now).counter
-        (P.position play.now).script (P.position play.now).at (P.position play.now).scene ≡ true }
-    requires number { number.now ≡ numbered (L.wording lines.now).label (P.position play.now).at }
-    ensures { Writes K.told (line_of (L.wording lines.now) (P.position play.now).counter
-        (P.position play.now).script (P.position play.now).at (P.position play.now).scene)
-        writer.old writer.new }
-{
-    lines.put_front(writer, play, number);
-    put_words(writer, play, lines, play.script().faulty_at(play.at()));
-    writer.byte(b'\n');
 }
 
 /// Writes the line of the play's configuration, whose number is this one, if there is a line.
@@ -77,6 +42,8 @@ pub fn put_if_shown<K: Sink, O: Overlay, P: Play<O>, L: Lines<O>>(
         writer.old writer.new }
 {
     if lines.shows(play) {
-        put_line(writer, play, lines, number);
+        lines.put_front(writer, play, number);
+        put_words(writer, play, lines, play.script().faulty_at(play.at()));
+        writer.byte(b'\n');
     }
 }

@@ -22,7 +22,7 @@ returns-clause-laid g c =
     with_items_is c.args.room.now.fronts c.lay_lies.new.fronts
     (c.lay_lies.auto.fronts ∙ c.deref_mut-2.ensures.len)
     ∙ c.lay_lies.ensures
-    ∙ ap (λ (d : ℕ). map (cut d) c.deref.result.now) c.depth-depth.ensures
+    ∙ ap (λ (d : ℕ). map (cut d) c.deref.result.now) c.depth.ensures
     ∙ ap (map (cut depth)) (c.deref.ensures.value ∙ states_are) in
     record {
       ready = record {
