@@ -48,8 +48,8 @@ returns-else-at-self g c =
     let ok : false ≡ is_in (faulty_at r.script t) c.args.v =
     sym c.if-is_faulty.false ∙ c.is_faulty.ensures
     ∙ ap (λ (faulty : List ℕ). is_in faulty c.args.v) (sym c.args.self.now.shows.same) in
-    let shown = c.args.self.now.shows.shows (λ here. c.if-at-self.false (c.at.ensures ∙ here)) c.args.v
-    c.requires (sym ok) in
+    let shown = c.args.self.now.shows.shows (λ here. c.if-at-self.false (c.at.ensures ∙ here))
+    c.args.v c.requires (sym ok) in
     writes_is
     (ap (λ (o : ℕ). word o c.args.v) shown
     ∙ ap (λ (b : Bool). cond b (codes " *") (word_at front word machine r.script t c.args.v)) ok)
