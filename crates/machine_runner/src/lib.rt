@@ -13,8 +13,8 @@
 //! first locked one. [`line_laws`] has what the lines of a slot table promise.
 //!
 //! [`put_shown`] plays a script and writes the machine's bound, the line that some [`ShownLines`]
-//! have of each configuration that is shown, and the first locked configuration of each era. So
-//! [`put_run`] writes the rows of the word `run`, and [`put_holds`] the lines of the word `slots`.
+//! have of each configuration that is shown, and the first locked configuration of each era:
+//! [`Rows`] are those of the word `run`, and [`HoldLines`] those of the word `slots`.
 #![tactic(auto)]
 
 mod era_locks;
@@ -40,7 +40,7 @@ pub use holds::HoldLines;
 pub use leading::play_to;
 pub use lines::ShownLines;
 pub use locks::{is_locked, is_locked_by};
-pub use playing::{put_holds, put_run, put_shown};
+pub use playing::put_shown;
 pub use putting::{put_bound, put_era, put_locked};
 pub use rows::Rows;
 pub use runners::{Runner, room_for};

@@ -1,14 +1,11 @@
 ghost use Rattle.std.specs.Prelude.{◌≡◌};
 ghost use Rattle.texts.specs.Growth.{Puts};
 ghost use Rattle.edge_io.specs.Writing.{Writes};
-ghost use Rattle.machine_runner.specs.ShownTexts.{shown_lines, shown_text, run_text};
-ghost use Rattle.machine_runner.specs.HoldTexts.{hold_text};
+ghost use Rattle.machine_runner.specs.ShownTexts.{shown_lines, shown_text};
 
-use crate::holds::HoldLines;
 use crate::leading::play_to;
 use crate::lines::ShownLines;
 use crate::lock_lines::put_locks;
-use crate::rows::Rows;
 use crate::words::Shown;
 use crate::{Runner, put_bound};
 use edge_io::{Sink, WriteFault, Writer};
@@ -65,39 +62,4 @@ pub fn put_shown<K: Sink, M: Machine, L: ShownLines>(
         put_locks(&mut writer, runner);
     }
     writer.finish()
-}
-
-/// Plays a script, and writes the machine's bound, a row of each configuration that is
-/// shown, and the first locked configuration of each era. It takes no memory.
-///
-/// The runner is at configuration 0. `WriteFault` comes if the sink counted one; a prefix of the
-/// text was then taken.
-pub fn put_run<K: Sink, M: Machine>(
-    sink: &mut K,
-    runner: &mut Runner<'_, M>,
-) -> Result<(), WriteFault>
-    requires { runner.old.at ≡ 0 }
-    ensures { Puts result (run_text (M.machine runner.old.machine) runner.old.script)
-        (K.told sink.old) (K.told sink.new) }
-{
-    put_shown(sink, runner, &Rows)
-}
-
-/// Plays a script, and writes the machine's bound, of each configuration that is shown
-/// which nodes hold by a slot table, and the first locked configuration of each era. It takes no
-/// memory.
-///
-/// The runner is at configuration 0. `WriteFault` comes if the sink counted one; a prefix of the
-/// text was then taken.
-pub fn put_holds<K: Sink, M: Machine>(
-    sink: &mut K,
-    runner: &mut Runner<'_, M>,
-    lines: &HoldLines,
-) -> Result<(), WriteFault>
-    requires { runner.old.at ≡ 0 }
-    ensures { Puts result
-        (hold_text lines.now.table (M.machine runner.old.machine) runner.old.script)
-        (K.told sink.old) (K.told sink.new) }
-{
-    put_shown(sink, runner, lines)
 }
