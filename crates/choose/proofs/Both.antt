@@ -1,7 +1,7 @@
 -- No plan is better than the pulse plan of fewest nodes, if a fault is to be tolerated.
 use Rattle.std.proofs.Common.{ℕ, ◌+◌, ◌-◌, ◌*◌, ◌<◌, ◌≤◌, ◌^◌, List, [], ◌∷◌, refl}
 use Rattle.std.proofs.Common.{arith}
-use Rattle.std.specs.Prelude.{Some, None}
+use Rattle.std.specs.Prelude.{Some}
 use Rattle.std.specs.Int.{div_ceil}
 use Rattle.std.proofs.lemmas.List.Elements.{All-nil, All-cons}
 use Rattle.std.proofs.Math.Nat.{pow-le-pow_left, pow-le-pow_right, mul-le-mul}
@@ -18,7 +18,7 @@ use Rattle.choose.specs.declared.any_plans.AnyPlan.{AnyPlan}
 use Rattle.choose.specs.declared.any_plans.AnyPlan.TheVariants.{Boosting, Pulses}
 use Rattle.choose.specs.Fronts.{Bears}
 use Rattle.choose.specs.FrontsOfBoth as both
-use Rattle.choose.specs.FrontsOfBoth.{Tolerates, Suits, IsTraded, IsNoWorse, IsFrontOfBoth}
+use Rattle.choose.specs.FrontsOfBoth.{Tolerates, Suits, IsNoWorse, IsFrontOfBoth}
 use Rattle.choose.proofs.Lower.{plan_of, bound_top}
 use Rattle.choose.proofs.Least.{lone_least}
 

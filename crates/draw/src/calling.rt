@@ -13,7 +13,7 @@ use run_pictures::{ChartError, DrawError, Form, draw};
 use std::alloc::{AllocError, Global};
 
 /// How many bytes are read at most.
-const LONGEST_INPUT: usize = 1 << 32;
+const LONGEST_TEXT: usize = 1 << 32;
 
 /// Whether an input is the line that `counterlab` writes in the place of a run.
 fn is_refusal(input: &[u8]) -> bool
@@ -108,6 +108,6 @@ pub fn draw_input<S: Source, K: Sink>(
     // At `ReadFault` the end of the source was not met.
     ensures unmet { IsErrOf result ProgramError.ReadFault → S.met source.new ≡ S.met source.old }
 {
-    let input = read_all(alloc, source, LONGEST_INPUT)?;
+    let input = read_all(alloc, source, LONGEST_TEXT)?;
     draw_text(alloc, form, &input, sink)
 }

@@ -1,16 +1,16 @@
 -- One text after another, by a writer.
 use Rattle.std.proofs.Common.{◌≡◌, ℕ, zero, suc, ◌+◌, ◌-◌, ◌<◌, ◌≤◌, List, [], ◌∷◌, ◌++◌, length}
-use Rattle.std.proofs.Common.{take, drop, get_or, Bool, true, false, Result, Ok, Err, refl, sym, ap}
-use Rattle.std.proofs.Common.{◌∙◌, subst, append-nil, add-one, arith}
-use Rattle.std.specs.Prelude.{OnOk, MatchResult}
+use Rattle.std.proofs.Common.{take, get_or, Bool, true, false, Result, Ok, Err, refl, sym, ap}
+use Rattle.std.proofs.Common.{◌∙◌, subst, append-nil, arith}
+use Rattle.std.specs.Prelude.{MatchResult}
 use Rattle.std.specs.List.{flat_map, range_with_len}
-use Rattle.std.proofs.lemmas.List.{take_more, take-append-drop}
+use Rattle.std.proofs.lemmas.List.{take_more}
 use Rattle.std.proofs.lemmas.List.Concat.{flat_map-append}
 use Rattle.texts.specs.Growth.{SinkState, gathering, Wrote, Cut, Puts}
 use Rattle.texts.proofs.Ranges.{range_more}
 use Rattle.texts.proofs.Growth.{wrote_none, wrote_then, cut_then, cut_more, puts_lent}
-use Rattle.edge_io.specs.Gathering.{held}
-use Rattle.edge_io.specs.Writing.{Proceeds, writer_told, Writes, IsFresh, Finishes}
+use Rattle.edge_io.specs.Gathering.{held, gathered_told}
+use Rattle.edge_io.specs.Writing.{Proceeds, Writes, IsFresh, Finishes}
 use Rattle.edge_io.specs.declared.writer.Writer.{Writer}
 
 proceeds_then : (before mid now : Bool) (a b : List ℕ) (s t u : SinkState)
@@ -50,12 +50,12 @@ writes_none {x = x} = record { so = proceeds_none x.failed _ }
 
 -- what is held back is written, if no write has failed
 pub writes_held : {K : Type 0} {told : K → SinkState} {a : List ℕ} {x y : Writer K}
-    → x.failed ≡ false → y.failed ≡ x.failed → Wrote a (writer_told told x) (writer_told told y)
+    → x.failed ≡ false → y.failed ≡ x.failed → Wrote a (gathered_told told x) (gathered_told told y)
     → Writes told a x y
 writes_held {told = told} {a = a} {x = x} {y = y} unfailed still wrote = record {
-  so = subst (λ (b : Bool). Proceeds b y.failed a (writer_told told x) (writer_told told y))
+  so = subst (λ (b : Bool). Proceeds b y.failed a (gathered_told told x) (gathered_told told y))
       (sym unfailed)
-      (subst (λ (b : Bool). Proceeds false b a (writer_told told x) (writer_told told y))
+      (subst (λ (b : Bool). Proceeds false b a (gathered_told told x) (gathered_told told y))
       (sym (still ∙ unfailed)) wrote);
 }
 
@@ -140,11 +140,11 @@ pub writes_all : {K T E : Type 0} {told : K → SinkState} {r : Result T E} {len
     → Puts r text start (told final)
 writes_all {told = told} {r = r} {lent = lent} {start = start} {text = text} {x = x} {y = y}
     {z = z} {final = final} fresh writes finishes ends =
-    let all : Proceeds x.failed z.failed text (writer_told told x) (writer_told told z) =
+    let all : Proceeds x.failed z.failed text (gathered_told told x) (gathered_told told z) =
     (writes_is (append-nil text) (writes_then writes finishes.rest)).so in
-    let from_start : Proceeds false z.failed text (gathering lent [] start) (writer_told told z) =
-    subst (λ (s : SinkState). Proceeds false z.failed text s (writer_told told z)) fresh.tells
-    (subst (λ (b : Bool). Proceeds b z.failed text (writer_told told x) (writer_told told z))
+    let from_start : Proceeds false z.failed text (gathering lent [] start) (gathered_told told z) =
+    subst (λ (s : SinkState). Proceeds false z.failed text s (gathered_told told z)) fresh.tells
+    (subst (λ (b : Bool). Proceeds b z.failed text (gathered_told told x) (gathered_told told z))
     fresh.unfailed all) in
     puts_lent told r lent z.sink.ghost_name (held z) text start
     z.sink.now final ends

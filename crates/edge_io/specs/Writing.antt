@@ -12,21 +12,17 @@ Proceeds true false text old new = ⊥
 Proceeds false true text old new = Cut text old new
 Proceeds false false text old new = Wrote text old new
 
--- what a writer tells as a sink, if the sink that it was lent tells `told`
-abbrev pub writer_told : {K : Type 0} → (K → SinkState) → Writer K → SinkState
-writer_told told w = gathered_told told w
-
 -- A writer, over a sink that tells `told`, wrote this text: all of it, if no write has failed.
 pub record Writes {K : Type 0} (told : K → SinkState) (text : List ℕ) (old new : Writer K)
     : Type 0 where
-  pub so : Proceeds old.failed new.failed text (writer_told told old) (writer_told told new)
+  pub so : Proceeds old.failed new.failed text (gathered_told told old) (gathered_told told new)
 
 -- it was made of the sink under that name, which tells this, and no write has failed
 pub record IsFresh {K : Type 0} (told : K → SinkState) (name : ℕ) (start : SinkState)
     (now : Writer K)
     : Type 0 where
   pub unfailed : now.failed ≡ false
-  pub tells : writer_told told now ≡ gathering name [] start
+  pub tells : gathered_told told now ≡ gathering name [] start
 
 -- it ended its text, answered whether a write failed, and at Ok it holds nothing back
 pub record Finishes {K T E : Type 0} (told : K → SinkState) (result : Result T E)

@@ -12,8 +12,8 @@ const ROOM: usize = 8192;
 const MOST_DIGITS: usize = 20;
 
 /// What a text is written by: it gathers bytes in a buffer of 8192 bytes of its own, passes them on
-/// to the sink that it was lent only when that is full and at `finish`, and keeps whether a write
-/// failed. It takes no memory.
+/// to the sink that it was lent only when it has no room for what comes next, and at `finish`, and
+/// keeps whether a write failed. It takes no memory.
 ///
 /// Its calls answer nothing, so that who writes a text by many of them has no exits of his own:
 /// after a write that failed they do nothing. `finish` passes on what is held back, and answers the
@@ -31,7 +31,7 @@ pub struct Writer<'a, K> {
 }
 
 impl<'a, K: Sink> Writer<'a, K> {
-    ghost use Rattle.std.specs.Prelude.{◌≡◌, ◌+◌, [], ◌∷◌, ◌++◌, ◌≤◌, length, decimal, OnOk};
+    ghost use Rattle.std.specs.Prelude.{◌≡◌, ◌+◌, [], ◌∷◌, ◌++◌, ◌<◌, ◌≤◌, length, decimal, OnOk};
     ghost use Rattle.std.specs.Prelude.{true, not};
     ghost use Rattle.texts.specs.Growth.{Wrote, Puts};
     ghost use Rattle.edge_io.specs.Gathering.{gathered_told, held};
@@ -65,17 +65,28 @@ impl<'a, K: Sink> Writer<'a, K> {
     {
         let mut at = 0;
         while bytes.len() - at > ROOM {
-            self.short_text(&bytes[at..at + ROOM]);
-            at += ROOM;
+            let count = self.next_room();
+            self.short_text(&bytes[at..at + count]);
+            at += count;
         }
         self.short_text(&bytes[at..]);
+    }
+
+    /// How many bytes fill the buffer: all of its room, if it is full and has to be passed on
+    /// first.
+    fn next_room(&self) -> usize
+        ensures some { 0 < result }
+        ensures most { result ≤ 8192 }
+    {
+        let left = ROOM - self.end;
+        if left > 0 { left } else { ROOM }
     }
 
     /// Writes one byte.
     pub fn byte(&mut self, byte: u8)
         ensures { Writes K.told (byte ∷ []) self.old self.new }
     {
-        if self.has_room(1) {
+        if self.make_room(1) {
             self.hold_byte(byte);
         }
     }
@@ -84,7 +95,7 @@ impl<'a, K: Sink> Writer<'a, K> {
     pub fn number(&mut self, value: u64)
         ensures { Writes K.told (decimal value) self.old self.new }
     {
-        if self.has_room(MOST_DIGITS) {
+        if self.make_room(MOST_DIGITS) {
             self.hold_number(value);
         }
     }
@@ -96,7 +107,7 @@ impl<'a, K: Sink> Writer<'a, K> {
         if label.len() > ROOM - MOST_DIGITS {
             self.text(label);
             self.number(value);
-        } else if self.has_room(label.len() + MOST_DIGITS) {
+        } else if self.make_room(label.len() + MOST_DIGITS) {
             self.hold_all(label);
             self.hold_number(value);
         }
@@ -106,7 +117,7 @@ impl<'a, K: Sink> Writer<'a, K> {
     pub fn rising(&mut self, number: &RisingText)
         ensures { Writes K.told (labelled_text number.now) self.old self.new }
     {
-        if self.has_room(MOST_RISING) {
+        if self.make_room(MOST_RISING) {
             self.hold_rising(number);
         }
     }
@@ -120,6 +131,7 @@ impl<'a, K: Sink> Writer<'a, K> {
         }
     }
 
+    /// Writes one piece.
     fn piece(&mut self, piece: &Piece<'_>)
         ensures { Writes K.told (piece_text piece.now) self.old self.new }
     {
@@ -146,7 +158,7 @@ impl<'a, K: Sink> Writer<'a, K> {
         requires few { length bytes.now ≤ 8192 }
         ensures { Writes K.told bytes.now self.old self.new }
     {
-        if self.has_room(bytes.len()) {
+        if self.make_room(bytes.len()) {
             self.hold_all(bytes);
         }
     }
@@ -176,7 +188,7 @@ impl<'a, K: Sink> Writer<'a, K> {
     }
 
     /// Makes room for so many bytes, and answers whether there is room: no write has failed.
-    fn has_room(&mut self, count: usize) -> bool
+    fn make_room(&mut self, count: usize) -> bool
         requires few { count ≤ 8192 }
         ensures nothing { Writes K.told [] self.old self.new }
         ensures unfailed { self.new.failed ≡ not result }

@@ -73,17 +73,13 @@ module _ {Reader Plan Premise : Type 0} (plans : PlanPart Reader Plan Premise) w
     pub pending_second : (bytes : List ℕ) → NodePending bytes
         → HeaderPending plans (w.decided.bytes ++ bytes)
     pending_second bytes p =
-        let lines = counts_behind (plan_line plans) plans.form plans.unread 1 longest_input 0 after s t
-        x
-        w goes_on
-        bytes in
+        let lines = counts_behind (plan_line plans) plans.form plans.unread 1 longest_input 0
+        after s t x w goes_on bytes in
         record {
           refusal = refusal.Node (1 + x.lines + length (whole_lines bytes)) rule.Form;
           lines = ap (behind_plan plans) (w.whole goes_on bytes)
               ∙ ap (behind_node x.value x.lines) p.lines;
           behind = omega (arith, lines);
-          room = goes_on_behind (plan_line plans) plans.form plans.unread 1 longest_input 0 after s t x
-              w
-              goes_on bytes
-              p.room;
+          room = goes_on_behind (plan_line plans) plans.form plans.unread 1 longest_input 0
+              after s t x w goes_on bytes p.room;
         }

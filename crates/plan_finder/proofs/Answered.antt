@@ -1,7 +1,7 @@
 -- What was found is the least plan, and its costs are potentials.
 use Rattle.std.proofs.Common.{◌≡◌, ℕ, ◌+◌, ◌*◌, ◌≤◌, List, [], ◌∷◌, refl, sym, ap, ◌∙◌, subst, inl}
 use Rattle.std.proofs.Common.{inr, arith}
-use Rattle.std.specs.Prelude.{Option, Some, None, IfSome}
+use Rattle.std.specs.Prelude.{Option, Some, None}
 use Rattle.std.specs.List.{Contains}
 use Rattle.std.proofs.lemmas.Bool.{cases_lt}
 use Rattle.std.proofs.lemmas.List.Elements.{All-weaker, All-contains}
@@ -14,7 +14,7 @@ use Rattle.plan_finder.specs.Potentials.{ArePotentials, IsKnown, IsAtMost, Steps
 use Rattle.plan_finder.specs.Potentials.{KeepsBound, bound_in}
 use Rattle.plan_finder.specs.Wanted.{IsPlanFor}
 use Rattle.plan_finder.specs.Building.{IsBuilt}
-use Rattle.plan_finder.specs.Best.{levels_in, IsValidBest, IsBestOf, HasFaults}
+use Rattle.plan_finder.specs.Best.{levels_in, IsBestOf, HasFaults}
 use Rattle.plan_finder.proofs.Paths.{plan_path}
 use Rattle.plan_finder.proofs.Sets.{path_few}
 use Rattle.plan_finder.proofs.Moduli.{least_plan, bound_counting}

@@ -7,13 +7,10 @@ use Rattle.std.proofs.lemmas.List.{length-take}
 use Rattle.construction.specs.Plans.{Level, nodes_of, bound_of}
 use Rattle.plan_finder.specs.declared.best.Step.{Step}
 use Rattle.plan_finder.specs.declared.best.Best.{Best}
-use Rattle.plan_finder.specs.Steps.{IsStep, cost_of}
 use Rattle.plan_finder.specs.Orders.{IsLess, steps_of, rank_of}
-use Rattle.plan_finder.specs.Costs.{Reaches}
 use Rattle.plan_finder.specs.Best.{level_by, levels_by, numbers_by, steps_in, levels_in, rank_in}
-use Rattle.plan_finder.specs.Best.{IsValidBest, IsBest, IsBestOf, IsLesser, IsWith, AreOver}
-use Rattle.plan_finder.proofs.Orders.{less_then, less_below, less_split, less_irreflexive}
-use Rattle.plan_finder.proofs.Paths.{length-steps_of}
+use Rattle.plan_finder.specs.Best.{IsValidBest, IsBestOf, IsLesser}
+use Rattle.plan_finder.proofs.Orders.{less_then, less_below}
 
 -- ---- the levels of steps
 

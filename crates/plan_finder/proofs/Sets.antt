@@ -1,18 +1,17 @@
 -- The sets of levels that a search goes through.
 use Rattle.std.proofs.Common.{◌≡◌, ℕ, ◌+◌, ◌*◌, ◌/◌, ◌%◌, ◌^◌, ◌<◌, ◌≤◌, List, [], ◌∷◌, ◌++◌}
-use Rattle.std.proofs.Common.{length, get_or, refl, sym, ap, ◌∙◌, subst, inl, inr, arith}
-use Rattle.std.specs.Prelude.{◌⊎◌, Option, Some, None, IfSome}
+use Rattle.std.proofs.Common.{length, get_or, sym, ap, ◌∙◌, subst, inl, inr, arith}
+use Rattle.std.specs.Prelude.{◌⊎◌, Option, None}
 use Rattle.std.proofs.lemmas.Bool.{cases_lt}
 use Rattle.std.proofs.lemmas.List.{get_or_at, get_or_append_left, length_push}
 use Rattle.std.proofs.lemmas.Nat.{div-mul-add, mod-mul-add}
 use Rattle.plan_numbers.proofs.Spans.{room_left}
-use Rattle.plan_finder.specs.Orders.{IsLess, rank_of}
 use Rattle.std.proofs.Math.Nat.{mul-le-mul_right, mul-div_cancel_left, mul-mod_right, pow-succ'}
 use Rattle.construction.specs.Plans.{Level, nodes_of, faults_of, bound_of}
 use Rattle.plan_finder.specs.declared.best.Best.{Best}
-use Rattle.plan_finder.specs.Steps.{IsPath, IsStep, cost_of}
+use Rattle.plan_finder.specs.Steps.{IsPath, IsStep}
 use Rattle.plan_finder.specs.Costs.{Reaches}
-use Rattle.plan_finder.specs.Best.{levels_in, levels_by, steps_in, IsValidBest, IsBest, IsBestOf}
+use Rattle.plan_finder.specs.Best.{levels_in, IsValidBest, IsBest, IsBestOf}
 use Rattle.plan_finder.specs.Best.{IsLesser, IsTried, HasFaults, AreOver, AreBest}
 use Rattle.plan_finder.proofs.Bests.{same_set, together, rank_is}
 

@@ -1,24 +1,20 @@
 -- The instruction of a beat, by what is heard.
-use Rattle.std.proofs.Common.{◌≡◌, ℕ, zero, suc, ◌+◌, ◌-◌, ◌*◌, ◌/◌, ◌%◌, ◌<◌, ◌≤◌, true, not}
-use Rattle.std.proofs.Common.{if◌then◌else◌, IfSome, All, nat_le, List, ◌++◌, map, length, drop}
-use Rattle.std.proofs.Common.{subst, Option, Some, None, refl, sym, ap, ◌∙◌, arith}
-use Rattle.std.specs.List.{range_with_len}
+use Rattle.std.proofs.Common.{◌≡◌, ℕ, suc, ◌+◌, ◌-◌, ◌*◌, ◌/◌, ◌%◌, ◌<◌, ◌≤◌, true}
+use Rattle.std.proofs.Common.{if◌then◌else◌, IfSome, nat_le, List, ◌++◌, map, length}
+use Rattle.std.proofs.Common.{Option, Some, None, refl, sym, ap, ◌∙◌, arith}
 use Rattle.std.proofs.lemmas.Nat.{mul-le}
 use Rattle.std.proofs.lemmas.List.{length-map}
-use Rattle.std.proofs.lemmas.List.Elements.{All-nil, All-cons, All-filter, All-map, All-append}
-use Rattle.std.proofs.lemmas.List.Elements.{All-take, All-drop}
 use Rattle.std.proofs.lemmas.List.FromFn.{get_or-map-range_with_len}
 use Rattle.counting.specs.Values.{count_of, least_above}
 use Rattle.counting.proofs.Places.{shorter}
 use Rattle.sync_types.specs.declared.states.Reg.{Reg}
-use Rattle.sync_types.specs.States.{State, zero_register, register_at}
+use Rattle.sync_types.specs.States.{State, register_at}
 use Rattle.construction.specs.PhaseKing.{instructed, incremented, own_or_kings, up}
 use Rattle.plan_numbers.specs.declared.numbers.LevelNums.{LevelNums}
 use Rattle.plan_numbers.specs.Sizes.{block_nodes}
 use Rattle.shared_board.specs.Senders.{Sent, is_liar, register_of, correct_in, liars_below}
-use Rattle.shared_board.specs.Senders.{liars_in}
 use Rattle.shared_board.specs.Senders.{values_of, IsTold, lies_in, value_heard, values_heard}
-use Rattle.shared_board.specs.GroupVotes.{AreNumbers, AreBelow, AreLies}
+use Rattle.shared_board.specs.GroupVotes.{AreNumbers}
 use Rattle.shared_board.specs.Votes.{IsKnown}
 use Rattle.shared_board.proofs.Heard.{count_of_heard, least_of_heard, lies_long, correct_count}
 
@@ -154,45 +150,3 @@ module _ (s : Sent) (nums : LevelNums) (first : ℕ) (beat : ℕ) (own : Reg) (l
       → IfSome known (λ m. least_above nums.faults
       (values ++ map (λ t. (register_at s.height t).a) slice) ≡ m)
   least_laid known is values slice e g = least_by known is values slice e g
-
--- a register's value is in range, if all registers are
-pub register_below : (s : Sent) (modulus : ℕ) → AreBelow modulus s.registers → (u : ℕ)
-    → u < length s.registers → IfSome (register_of s u).a (λ a. a < modulus)
-register_below s modulus below u lt = below u zero_register lt
-
-range_all : (P : ℕ → Type 0) (count first : ℕ) → ((u : ℕ) → first ≤ u → u < first + count → P u)
-    → All P (range_with_len first count)
-range_all P zero first h = All-nil P
-range_all P (suc count) first h =
-    All-cons P first (range_with_len (first + 1) count) (h first (omega arith) (omega arith))
-    (range_all P count (first + 1) (λ u le lt. h u (omega arith) (omega arith)))
-
--- the values of a stretch are in range
-pub values_below : (s : Sent) (modulus first count : ℕ) → first + count ≤ length s.registers
-    → AreBelow modulus s.registers
-    → All (λ o. IfSome o (λ a. a < modulus)) (values_of s first count)
-values_below s modulus first count within below =
-    let within_all = range_all (λ u. u < length s.registers) count first (λ u le lt. omega arith) in
-    All-map (λ o. IfSome o (λ a. a < modulus)) (λ u. (register_of s u).a) (correct_in s first count)
-    (λ k d lt. register_below s modulus below _
-    (All-filter (λ u. not (is_liar s u)) (λ u. u < length s.registers)
-    (range_with_len first count) within_all k d lt))
-
--- what is counted of a stretch and of its lies is in range
-pub laid_below : (s : Sent) (modulus first count : ℕ) (lies : List State)
-    → first + count ≤ length s.registers → AreBelow modulus s.registers
-    → AreLies s.height modulus lies
-    → (values : List (Option ℕ)) (slice : List State) → values ≡ values_of s first count
-    → slice ≡ lies_in s lies first count
-    → All (λ o. IfSome o (λ a. a < modulus)) (values ++ map (λ t. (register_at s.height t).a) slice)
-laid_below s modulus first count lies within below lies_below values slice e g =
-    let P : Option ℕ → Type 0 = λ o. IfSome o (λ a. a < modulus) in
-    let Q : State → Type 0 = λ t. (s.height < length t.registers) × P (register_at s.height t).a in
-    let value : State → Option ℕ = λ t. (register_at s.height t).a in
-    let told : All Q slice =
-    subst (All Q) (sym g)
-    (All-take Q (liars_in s first count) (drop (liars_below s first) lies)
-    (All-drop Q (liars_below s first) lies lies_below)) in
-    All-append P values (map value slice)
-    (subst (All P) (sym e) (values_below s modulus first count within below))
-    (All-map P value slice (λ k d lt. (told k d lt).1))

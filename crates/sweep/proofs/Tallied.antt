@@ -1,20 +1,19 @@
 -- The runs of all eras, one run more.
 use Rattle.std.proofs.Common.{◌≡◌, ℕ, ◌+◌, ◌-◌, ◌<◌, ◌≤◌, ◌^◌, inl, inr, List, [], ◌∷◌, ◌++◌}
-use Rattle.std.proofs.Common.{length, map, replicate, get_or, set, Option, Some, None, IfSome, refl}
+use Rattle.std.proofs.Common.{length, map, replicate, get_or, set, Option, refl}
 use Rattle.std.proofs.Common.{sym, ap, ap₂, ◌∙◌, subst, arith}
 use Rattle.std.specs.List.{range_with_len}
 use Rattle.std.proofs.lemmas.Bool.{cases_eq}
-use Rattle.std.proofs.lemmas.List.{map-id, length-set, length-replicate, get_or-replicate}
+use Rattle.std.proofs.lemmas.List.{length-set, length-replicate, get_or-replicate}
 use Rattle.std.proofs.lemmas.List.{get_or-set_same, get_or-set_other}
 use Rattle.std.proofs.lemmas.List.FromFn.{fill_by_all, map-range_with_len_more}
 use Rattle.std.proofs.lemmas.List.FromFn.{length-map-range_with_len, get_or-map-range_with_len}
-use Rattle.texts.proofs.Ranges.{range_more}
 use Rattle.adversary_script.specs.Scripts.{Script, IsScript}
 use Rattle.adversary_script.specs.Eras.{first_of_era, end_of_era}
 use Rattle.machine_runner.proofs.Firsts.{era_some}
 use Rattle.sweep.specs.Keys.{keyed}
 use Rattle.sweep.specs.Sweeps.{Locks, lock_with}
-use Rattle.sweep.specs.Tallies.{EraRuns, AreRuns, AreOfEra, AreTallied, HasRoom, IsWithin, nothing}
+use Rattle.sweep.specs.Tallies.{EraRuns, AreRuns, AreOfEra, AreTallied, HasRoom, nothing}
 use Rattle.sweep.specs.Tallies.{no_runs}
 
 -- the runs of era j before the first one

@@ -4,7 +4,7 @@ use Rattle.std.specs.Prelude.{false}
 use Rattle.std.specs.Prelude.{nat_le, nat_lt, ◌==◌, if◌then◌else◌, Option, Some, None}
 use Rattle.texts.specs.Parts.{Next, goes, ends, refuses}
 
--- how many bytes an input has at most, but for a run certificate and what draw reads
+-- how many bytes an input that is read whole has at most, and so the header of a node
 abbrev pub longest_input : ℕ
 longest_input = 2 ^ 20
 

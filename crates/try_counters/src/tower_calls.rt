@@ -210,6 +210,7 @@ fn each_level_has_its_own_spares(rt: HostRuntime) -> Result<(), Fail> {
     states[3].set_reg(0, plain(Some(7)));
     states[12].set_reg(1, plain(Some(5)));
     for row in &SPARED {
+        // a place of the thirteen nodes, which the calls ask for
         let place = row.0 % 13;
         assert!(rt; tower.low(place) == row.1, "node {}", row.0);
         let out = stepped(rt.alloc(), &tower, place, &states)?;

@@ -5,13 +5,13 @@ use Rattle.edge_io.proofs.writer.Writer.labelled.Goals as goal
 pub returns-then-label : goal.returns-then-label
 returns-then-label g c = writes_then c.text.ensures c.number.ensures
 
-pub returns-then-has_room : goal.returns-then-has_room
-returns-then-has_room g c = writes_then c.has_room.ensures.nothing
+pub returns-then-make_room : goal.returns-then-make_room
+returns-then-make_room g c = writes_then c.make_room.ensures.nothing
     (writes_then {y = c.hold_all.new.self}
-    (writes_held c.if-has_room.ensures.unfailed c.hold_all.ensures.still c.hold_all.ensures.wrote)
-    (writes_held (c.hold_all.ensures.still ∙ c.if-has_room.ensures.unfailed)
+    (writes_held c.if-make_room.ensures.unfailed c.hold_all.ensures.still c.hold_all.ensures.wrote)
+    (writes_held (c.hold_all.ensures.still ∙ c.if-make_room.ensures.unfailed)
     c.hold_number.ensures.still c.hold_number.ensures.wrote))
 
-pub returns-else-has_room : goal.returns-else-has_room
-returns-else-has_room g c = writes_more (c.args.label.now ++ decimal c.args.value)
-    c.if-has_room.ensures.unfailed c.has_room.ensures.nothing
+pub returns-else-make_room : goal.returns-else-make_room
+returns-else-make_room g c = writes_more (c.args.label.now ++ decimal c.args.value)
+    c.if-make_room.ensures.unfailed c.make_room.ensures.nothing

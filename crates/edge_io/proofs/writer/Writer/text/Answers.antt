@@ -8,8 +8,9 @@ loop-at-init g c = record { within = omega arith; writes = writes_none }
 
 pub loop-at-preserved : goal.loop-at-preserved
 loop-at-preserved g c = record {
-  within = omega (arith, c.loop-at-test.true, c.loop-at.invariant.within);
-  writes = writes_is (part_taken c.loop-at.at (c.loop-at.at + 8192) c.args.bytes.now (omega arith))
+  within = omega (arith, c.loop-at-test.true, c.loop-at.invariant.within, c.next_room-count.ensures.most);
+  writes = writes_is (part_taken c.loop-at.at (c.loop-at.at + c.next_room-count.result) c.args.bytes.now
+      (omega arith))
       (writes_then c.loop-at.invariant.writes c.short_text.ensures);
 }
 

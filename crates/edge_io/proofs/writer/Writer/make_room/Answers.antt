@@ -1,6 +1,6 @@
 use Rattle.std.proofs.Common.{◌∙◌}
 use Rattle.edge_io.proofs.Writing.{writes_none, writes_held}
-use Rattle.edge_io.proofs.writer.Writer.has_room.Goals as goal
+use Rattle.edge_io.proofs.writer.Writer.make_room.Goals as goal
 
 pub returns-then-count-self-clause-nothing : goal.returns-then-count-self-clause-nothing
 returns-then-count-self-clause-nothing g c = writes_none
