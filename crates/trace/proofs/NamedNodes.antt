@@ -1,6 +1,6 @@
 -- The nodes that words name, one after the other.
 use Rattle.std.proofs.Common.{◌≡◌, ℕ, zero, suc, ◌+◌, ◌<◌, ◌≤◌, List, [], ◌∷◌, ◌++◌, true, false}
-use Rattle.std.proofs.Common.{All, filter, refl, sym, ap, ◌∙◌, add-one, arith}
+use Rattle.std.proofs.Common.{All, filter, refl, sym, ap, ◌∙◌, arith}
 use Rattle.std.specs.List.{range_with_len}
 use Rattle.std.proofs.lemmas.List.{append-nil}
 use Rattle.std.proofs.lemmas.List.Elements.{All-cons, All-nil, All-filter, filter-append}

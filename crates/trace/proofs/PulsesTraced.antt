@@ -14,13 +14,13 @@ use Rattle.pulse_runs.specs.RunInputs as pulses
 use Rattle.pulse_runs.specs.declared.errors.RunRefusal.{RunRefusal}
 use Rattle.trace.specs.PulseTraceTexts.{trace_text}
 use Rattle.state_codec.specs.Shapes.{Shape}
-use Rattle.trace.specs.declared.wants.Want.{Want}
+use Rattle.trace.specs.Wanted.{Wanted}
 use Rattle.trace.specs.declared.reasons.TraceReason.{TraceReason}
 use Rattle.trace.specs.declared.reasons.TraceReason.TheVariants as reason
 use Rattle.trace.specs.Answers.{fails_at_first, levels_trace_or, pulses_trace, trace_by, trace_of}
 use Rattle.trace.specs.Names.{are_nodes, named_nodes}
 
-module _ (want : Want) (words : List (List ℕ)) (plan : PulseNumbers) (script : Script) where
+module _ (want : Wanted) (words : List (List ℕ)) (plan : PulseNumbers) (script : Script) where
   abbrev pub answer : Result (List ℕ) TraceReason
   answer = pulses_trace want words (record { plan = plan; script = script })
 
@@ -50,7 +50,7 @@ module _ (want : Want) (words : List (List ℕ)) (plan : PulseNumbers) (script :
 
 -- ---- what is answered to an input, by what it is read as
 
-module _ (want : Want) (words : List (List ℕ)) (input : List ℕ) where
+module _ (want : Wanted) (words : List (List ℕ)) (input : List ℕ) where
   pub of_read : (read : PulseNumbers × Shape × Script) → IsReadAs input read
       → (r : Running PulseNumbers) → r ≡ begun read.0 read.2
       → trace_of want words input

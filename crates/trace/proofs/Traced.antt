@@ -13,10 +13,9 @@ use Rattle.round_runner.specs.Runners.{Running}
 use Rattle.outcomes.specs.Inputs.{scripted_of}
 use Rattle.answers.specs.ScriptedRuns.{IsScriptedRun}
 use Rattle.trace.specs.declared.desks.TraceBuffers.{TraceBuffers}
-use Rattle.trace.specs.declared.wants.Want.{Want}
+use Rattle.trace.specs.Wanted.{Wanted}
 use Rattle.trace.specs.Desks.{IsFitFor, IsMade}
 use Rattle.trace.specs.TraceTexts.{trace_text}
-use Rattle.trace.specs.Wants.{IsToTrace}
 use Rattle.program_words.proofs.Answered.{answers_fails, fails_then}
 use Rattle.program_words.specs.Conduct.{Answers, FailsAs}
 use Rattle.program_words.specs.declared.errors.ProgramError.{ProgramError}
@@ -26,7 +25,7 @@ use Rattle.trace.specs.Answers.{levels_read, levels_trace, levels_trace_or}
 use Rattle.trace.specs.Names.{are_nodes, named_nodes}
 
 -- after a reading that failed
-pub unread : {T : Type 0} (want : Want) (words : List (List ℕ)) (input : List ℕ)
+pub unread : {T : Type 0} (want : Wanted) (words : List (List ℕ)) (input : List ℕ)
     (result : Result T (ProgramError TraceReason)) (e : ProgramError TraceReason) (s : SinkState)
     → FailsAs (levels_read (scripted_of input)) e → IsErrAnd result (λ given. given ≡ e)
     → Answers (levels_trace_or want words (scripted_of input)) result s s
@@ -38,7 +37,7 @@ unread want words input result e s fails given =
 
 -- ---- what is answered to a plan and a script
 
-module _ (want : Want) (words : List (List ℕ)) (input : List ℕ) (plan : Plan)
+module _ (want : Wanted) (words : List (List ℕ)) (input : List ℕ) (plan : Plan)
     (r : Running NoOverlay) (is : IsScriptedRun input (plan, r)) where
   by_tests : (late all : Bool) → nat_lt r.script.rounds want.last ≡ late
       → are_nodes words (plan_nodes plan) ≡ all

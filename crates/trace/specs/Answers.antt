@@ -11,7 +11,7 @@ use Rattle.pulse_runs.specs.declared.errors.RunRefusal.{RunRefusal}
 use Rattle.pulse_runs.specs.declared.errors.RunRefusal.TheVariants as refusal
 use Rattle.pulse_runs.specs.RunInputs as pulses
 use Rattle.trace.specs.PulseTraceTexts as pulse_texts
-use Rattle.trace.specs.declared.wants.Want.{Want}
+use Rattle.trace.specs.Wanted.{Wanted}
 use Rattle.trace.specs.TraceTexts.{trace_text}
 use Rattle.trace.specs.Names.{are_nodes, named_nodes}
 use Rattle.trace.specs.declared.reasons.TraceReason.{TraceReason}
@@ -32,7 +32,7 @@ abbrev pub levels_read : Result Scripted Refusal → Result Scripted TraceReason
 levels_read (Ok scripted) = Ok scripted
 levels_read (Err refusal) = Err (reason.Levels refusal)
 
-module _ (want : Want) (words : List (List ℕ)) where
+module _ (want : Wanted) (words : List (List ℕ)) where
   -- of a plan of levels over blocks and a script: the words are refused if the last wanted
   -- configuration is not played, or a word names no node
   abbrev pub levels_trace : Scripted → Result (List ℕ) TraceReason

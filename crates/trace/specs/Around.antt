@@ -1,5 +1,5 @@
 -- A group around a node, in a configuration and in what the node hears.
-use Rattle.std.specs.Prelude.{◌≡◌, ℕ, ◌+◌, ◌<◌, ◌≤◌, List, length, All}
+use Rattle.std.specs.Prelude.{◌≡◌, ◌+◌, ◌<◌, ◌≤◌, List, length, All}
 use Rattle.sync_types.specs.States.{State}
 use Rattle.pulse_plan.specs.Groups.{PulseGroup}
 use Rattle.pulse_plan.specs.MachineGroups.{HasGroup}

@@ -4,7 +4,6 @@ use Rattle.sync_types.specs.States.{State}
 use Rattle.construction.specs.Plans.{Plan, plan_nodes}
 use Rattle.plan_numbers.specs.Numbers.{levels_in}
 use Rattle.plan_numbers.specs.Stacked.{AreSomeLevels}
-use Rattle.counter_core.specs.Working.{IsWorkFor}
 use Rattle.counter_core.specs.declared.overlays.NoOverlay.{NoOverlay}
 use Rattle.round_runner.specs.Runners.{Running}
 use Rattle.trace.specs.declared.desks.TraceBuffers.{TraceBuffers}
@@ -23,7 +22,6 @@ pub record IsMade (plan : Plan) (depth : ℕ) (desk : TraceBuffers) : Type 0 whe
   pub few : plan_nodes plan ≤ 256
   pub config : HasRoom (plan_nodes plan) depth desk.config.items
   pub heard : HasRoom (plan_nodes plan) depth desk.heard.items
-  pub work : IsWorkFor (plan_nodes plan) desk.work
 
 -- the desk is one for the states of a runner
 abbrev pub IsFitFor : Running NoOverlay → TraceBuffers → Type 0

@@ -18,5 +18,5 @@ pub mod LevelTexts
 pub mod NodeTexts
 pub mod Places
 pub mod TraceTexts
-pub mod Views
+pub mod Wanted
 pub mod Wants

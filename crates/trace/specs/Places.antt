@@ -19,7 +19,6 @@ pub record IsPlace (view : View) (nums : LevelNums) (below first : ℕ) (group :
   pub numbers : AreNumbers nums
   pub shallow : below < 5
   pub within : first + nums.nodes ≤ length view.config.now
-  pub few : length view.config.now ≤ 256
   pub deep : All (λ s. below < length s.registers) view.config.now
   pub size : length group ≡ nums.nodes
   pub heard : All (λ s. below < length s.registers) group

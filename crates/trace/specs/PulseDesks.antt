@@ -1,16 +1,14 @@
 -- What a trace on a pulse plan needs besides its runner, and where the runner is.
-use Rattle.std.specs.Prelude.{◌≡◌, ℕ, ◌≤◌}
+use Rattle.std.specs.Prelude.{ℕ}
 use Rattle.adversary_script.specs.Scripts.{Script}
 use Rattle.machine_runner.specs.Hearing.{HasRoom}
 use Rattle.machine_runner.specs.Runners.{Running}
-use Rattle.pulse_plan.specs.Plans.{PulseNumbers}
 use Rattle.trace.specs.declared.pulse_desks.PulseBuffers.{PulseBuffers}
 
 -- the desk has room for the states of a script's nodes
 pub record IsDeskFor (script : Script) (desk : PulseBuffers) : Type 0 where
   pub config : HasRoom script desk.config.items
   pub heard : HasRoom script desk.heard.items
-  pub values : script.nodes ≤ desk.values.capacity
 
 -- the same runner at configuration t
 abbrev pub runner_at : {M : Type 0} → Running M → (t : ℕ) → Running M

@@ -1,15 +1,8 @@
--- Which configurations are wanted, and a runner that comes to them.
-use Rattle.std.specs.Prelude.{◌≡◌, ℕ, ◌≤◌, []}
+-- A runner that comes to the wanted configurations.
+use Rattle.std.specs.Prelude.{◌≡◌, ℕ, []}
 use Rattle.counter_core.specs.declared.overlays.NoOverlay.{NoOverlay}
 use Rattle.counter_core.specs.NoLayers.{no_layer}
-use Rattle.adversary_script.specs.Scripts.{Script}
 use Rattle.round_runner.specs.Runners.{Running, IsPlaying}
-use Rattle.trace.specs.declared.wants.Want.{Want}
-
--- the wanted configurations are played
-pub record IsWithin (script : Script) (want : Want) : Type 0 where
-  pub order : want.first ≤ want.last
-  pub last : want.last ≤ script.rounds
 
 -- the runner plays its script, and is at configuration 0
 pub record IsToTrace (r : Running NoOverlay) : Type 0 where

@@ -1,7 +1,6 @@
 //! Answers an input: the script after its plan is played, and its trace is written.
 
-ghost use Rattle.std.specs.Prelude.{◌≡◌, ◌≤◌, length, map, string_bytes};
-ghost use Rattle.texts.specs.Limits.{longest_input};
+ghost use Rattle.std.specs.Prelude.{◌≡◌, map, string_bytes};
 ghost use Rattle.program_words.specs.Conduct.{Answers};
 ghost use Rattle.trace.specs.Answers.{is_first, fails_at_first, trace_of};
 
@@ -40,9 +39,8 @@ fn fails_at_first(first: Option<u64>, refusal: RunRefusal) -> bool
     }
 }
 
-/// Writes the trace of an input of at most 2^20 bytes, a plan of either construction and a script:
-/// that of the wanted configurations and of the nodes that the words name, or of all if there is
-/// no word.
+/// Writes the trace of an input, a plan of either construction and a script: that of the wanted
+/// configurations and of the nodes that the words name, or of all if there is no word.
 pub fn write_trace<K: Sink>(
     alloc: Global,
     want: Want,
@@ -50,8 +48,6 @@ pub fn write_trace<K: Sink>(
     input: &[u8],
     sink: &mut K,
 ) -> Result<(), TraceError>
-    requires order { want.first ≤ want.last }
-    requires short { length input.now ≤ longest_input }
     ensures { Answers (trace_of want (map string_bytes words.now) input.now) result
         (K.told sink.old) (K.told sink.new) }
 {

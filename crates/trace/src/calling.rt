@@ -1,6 +1,6 @@
 //! Reads an input, and writes its trace.
 
-ghost use Rattle.std.specs.Prelude.{◌≡◌, ◌≤◌, map, string_bytes, IsErrOf};
+ghost use Rattle.std.specs.Prelude.{◌≡◌, map, string_bytes, IsErrOf};
 ghost use Rattle.trace.specs.Conduct.{TracesInput};
 
 use crate::answering::write_trace;
@@ -30,7 +30,6 @@ pub fn trace_input<S: Source, K: Sink>(
     source: &mut S,
     sink: &mut K,
 ) -> Result<(), TraceError>
-    requires { want.first ≤ want.last }
     ensures traces { TracesInput result want (map string_bytes words.now)
         (S.left source.old) (S.left source.new) (S.faults source.old) (S.faults source.new)
         (K.told sink.old) (K.told sink.new) }

@@ -1,6 +1,6 @@
 //! What a node counts of what it hears of a group.
 
-ghost use Rattle.std.specs.Prelude.{◌≡◌, ◌+◌, ◌≤◌, ◌<◌, length, All};
+ghost use Rattle.std.specs.Prelude.{◌≡◌};
 ghost use Rattle.counting.specs.Values.{count_of, least_above};
 ghost use Rattle.edge_io.specs.Writing.{Writes};
 ghost use Rattle.pulse_plan.specs.LevelStates.{echoed, backed, says_left, says_right};
@@ -9,10 +9,11 @@ ghost use Rattle.pulse_plan.specs.PulseMachineHearing.{level_states_in};
 ghost use Rattle.pulse_plan.specs.PulseMachineLevelStates.{left_fires, right_fires};
 ghost use Rattle.trace.specs.Counted.{grade_word, fires_word, counted_part};
 
+use crate::group_views::GroupView;
 use crate::line_words::number_piece;
-use counter_core::{Heard, HeardRegister};
+use crate::rooms::ValueRoom;
+use counter_core::HeardRegister;
 use edge_io::{Piece, Sink, Writer};
-use majority_votes::Tally;
 use pulse_plan::{Group, LevelState, count_group};
 
 /// What a node counts of the nodes of a group.
@@ -28,31 +29,24 @@ pub struct HeardCounts {
     pub least: Option<u64>,
 }
 
-/// Counts what a node of a group, which has this level state, hears of it. It takes no memory.
-pub fn count_said(
-    group: &Group,
-    own: &LevelState,
-    heard: &Heard<'_>,
-    values: &mut Tally,
-) -> HeardCounts
-    requires within { group.now.first + group.now.nodes ≤ length heard.now }
-    requires deep { All (λ s. group.now.register + 4 ≤ length s.registers) heard.now }
-    requires room { group.now.nodes ≤ values.old.capacity }
-    ensures left { result.left ≡ says_left (level_states_in group.now heard.now) }
-    ensures right { result.right ≡ says_right (level_states_in group.now heard.now) }
-    ensures same { result.same
-        ≡ count_of (values_of (level_states_in group.now heard.now)) own.now.register.a }
-    ensures least { result.least
-        ≡ least_above group.now.faults (values_of (level_states_in group.now heard.now)) }
-    ensures capacity { values.new.capacity ≡ values.old.capacity }
+/// Counts what the node of a group, which has this level state, hears of it. It takes no memory.
+pub fn count_said(seen: &GroupView<'_>, own: &LevelState, room: &mut ValueRoom) -> HeardCounts
+    ensures left { result.left ≡ says_left (level_states_in seen.now.group seen.now.heard.now) }
+    ensures right { result.right
+        ≡ says_right (level_states_in seen.now.group seen.now.heard.now) }
+    ensures same { result.same ≡ count_of
+        (values_of (level_states_in seen.now.group seen.now.heard.now)) own.now.register.a }
+    ensures least { result.least ≡ least_above seen.now.group.faults
+        (values_of (level_states_in seen.now.group seen.now.heard.now)) }
 {
+    let (group, heard) = (seen.group, seen.heard);
     group.facts();
     let (nodes, faults) = (group.nodes(), group.faults());
     let value = own.register.a;
-    let counts = count_group(group, value, heard);
+    let counts = count_group(&group, value, heard);
     let stretch = heard.stretch(group.first(), nodes);
     let registers = HeardRegister::of(&stretch, group.register(), nodes, faults);
-    let least = registers.least(value, counts.same, values);
+    let least = registers.least(value, counts.same, &mut room.values);
     HeardCounts {
         left: counts.saw_left,
         right: counts.saw_right,

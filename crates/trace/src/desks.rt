@@ -3,7 +3,7 @@ ghost use Rattle.construction.specs.Plans.{plan_depth};
 ghost use Rattle.plan_numbers.specs.Numbers.{level_numbers};
 ghost use Rattle.trace.specs.Desks.{HasRoom, IsMade};
 
-use counter_core::Work;
+use crate::rooms::VoteRoom;
 use plan_numbers::{LevelNums, Plan};
 use std::alloc::Global;
 use sync_types::{NoMemory, NodeState};
@@ -18,7 +18,7 @@ pub struct TraceBuffers {
     /// What a node hears of all nodes.
     pub heard: Vec<NodeState>,
     /// The room for votes and counts.
-    pub work: Work,
+    pub room: VoteRoom,
 }
 
 /// The numbers of a plan's levels, the lowest first.
@@ -52,12 +52,12 @@ impl TraceBuffers {
         let nodes = plan.nodes();
         let config = states_of(alloc, nodes, depth)?;
         let heard = states_of(alloc, nodes, depth)?;
-        let work = Work::new(alloc, nodes)?;
+        let room = VoteRoom::new(alloc)?;
         Ok(TraceBuffers {
             levels,
             config,
             heard,
-            work,
+            room,
         })
     }
 }

@@ -1,23 +1,24 @@
 //! The lines of the groups in which a node is.
 
-ghost use Rattle.std.specs.Prelude.{◌≡◌, ◌+◌, ◌^◌, ◌<◌, ◌≤◌, length, All};
+ghost use Rattle.std.specs.Prelude.{◌≡◌};
 ghost use Rattle.construction.specs.Steps.{state_of};
 ghost use Rattle.edge_io.specs.Writing.{Writes};
 ghost use Rattle.pulse_plan.specs.Groups.{sizes_of};
 ghost use Rattle.pulse_plan.specs.PulseMachineHearing.{level_state_in, level_states_in};
 ghost use Rattle.trace.specs.Around.{IsAround};
-ghost use Rattle.trace.specs.GroupTexts.{half_word, seen_word, turn_part, marks_part};
+ghost use Rattle.trace.specs.GroupTexts.{half_word, seen_word, marks_part};
 ghost use Rattle.trace.specs.GroupTexts.{instruction_part, held_part, heard_if};
 ghost use Rattle.trace.specs.GroupTexts.{group_front, group_line};
 ghost use Rattle.trace.specs.Groups.{groups_of};
 ghost use Rattle.trace.specs.PulseNodeTexts.{group_lines};
 
 use crate::counted::{count_said, put_said};
+use crate::group_views::GroupView;
 use crate::line_words::{mark_word, number_piece, turn_word};
+use crate::rooms::ValueRoom;
 use crate::views::View;
 use counter_core::Heard;
 use edge_io::{Piece, Sink, Writer};
-use majority_votes::Tally;
 use pulse_plan::{Group, LevelState};
 
 /// The word of the half that began the instructions.
@@ -34,20 +35,6 @@ fn seen_word(seen: bool) -> &'static str
     if seen { " seen" } else { " unseen" }
 }
 
-/// Writes an instruction of a group, and whose phase it is of.
-fn put_turn<K: Sink>(writer: &mut Writer<'_, K>, group: &Group, instruction: u64)
-    requires { instruction ≤ 2 ^ 32 }
-    ensures { Writes K.told (turn_part group.now.first instruction) writer.old writer.new }
-{
-    writer.pieces(&[
-        Piece::Text(b" instruction "),
-        Piece::Number(instruction),
-        Piece::Text(turn_word(instruction % 3).as_bytes()),
-        Piece::Text(b" king "),
-        Piece::Number(u64::from(group.first()) + instruction / 3),
-    ]);
-}
-
 /// Writes which instruction comes in a group, and whose phase it is of; or that the node waits.
 fn put_instruction<K: Sink>(writer: &mut Writer<'_, K>, group: &Group, own: &LevelState)
     ensures { Writes K.told
@@ -55,10 +42,17 @@ fn put_instruction<K: Sink>(writer: &mut Writer<'_, K>, group: &Group, own: &Lev
         writer.old writer.new }
 {
     group.facts();
-    if own.instruction >= group.instructions() {
+    let instruction = own.instruction;
+    if instruction >= group.instructions() {
         writer.text(b" waits");
     } else {
-        put_turn(writer, group, own.instruction);
+        writer.pieces(&[
+            Piece::Text(b" instruction "),
+            Piece::Number(instruction),
+            Piece::Text(turn_word(instruction % 3).as_bytes()),
+            Piece::Text(b" king "),
+            Piece::Number(u64::from(group.first()) + instruction / 3),
+        ]);
     }
 }
 
@@ -88,12 +82,12 @@ fn put_held<K: Sink>(writer: &mut Writer<'_, K>, group: &Group, own: &LevelState
 }
 
 /// Writes the beginning of a group's line, up to the node's own register there.
-fn put_front<K: Sink>(writer: &mut Writer<'_, K>, group: &Group, view: &View<'_>, own: &LevelState)
-    requires within { group.now.first + group.now.nodes ≤ length view.now.config.now }
-    requires deep { All (λ s. group.now.register < length s.registers) view.now.config.now }
-    ensures { Writes K.told (group_front view.now.heading view.now.faulty.now.ids
-        view.now.config.now group.now own.now.register) writer.old writer.new }
+fn put_front<K: Sink>(writer: &mut Writer<'_, K>, seen: &GroupView<'_>, own: &LevelState)
+    ensures { Writes K.told (group_front seen.now.view.now.heading
+        seen.now.view.now.faulty.now.ids seen.now.view.now.config.now seen.now.group
+        own.now.register) writer.old writer.new }
 {
+    let (view, group) = (seen.view, seen.group);
     group.facts();
     let (first, nodes) = (group.first(), group.nodes());
     let register = own.register;
@@ -114,57 +108,41 @@ fn put_front<K: Sink>(writer: &mut Writer<'_, K>, group: &Group, view: &View<'_>
     ]);
 }
 
-/// Writes what a node with this level state hears of a group, if nodes hear one another.
+/// Writes what the node, which has this level state, hears of the group, if nodes hear one another.
 fn put_heard_if<K: Sink>(
     writer: &mut Writer<'_, K>,
-    group: &Group,
-    hears: bool,
+    seen: &GroupView<'_>,
     own: &LevelState,
-    heard: &Heard<'_>,
-    values: &mut Tally,
+    room: &mut ValueRoom,
 )
-    requires halves { 0 < group.now.faults }
-    requires within { group.now.first + group.now.nodes ≤ length heard.now }
-    requires deep { All (λ s. group.now.register + 4 ≤ length s.registers) heard.now }
-    requires room { group.now.nodes ≤ values.old.capacity }
-    ensures part { Writes K.told (heard_if hears (sizes_of group.now) own.now
-        (level_states_in group.now heard.now)) writer.old writer.new }
-    ensures capacity { values.new.capacity ≡ values.old.capacity }
+    ensures { Writes K.told (heard_if seen.now.view.now.hears (sizes_of seen.now.group) own.now
+        (level_states_in seen.now.group seen.now.heard.now)) writer.old writer.new }
 {
-    if hears {
-        let said = count_said(group, own, heard, values);
-        put_said(writer, group, own, &said);
+    if seen.view.hears {
+        let said = count_said(seen, own, room);
+        put_said(writer, &seen.group, own, &said);
     }
 }
 
-/// The level state that the node has in a group.
-fn own_in(group: &Group, view: &View<'_>) -> LevelState
-    requires { All (λ s. group.now.register + 4 ≤ length s.registers) view.now.config.now }
-    ensures { result
-        ≡ level_state_in group.now (state_of view.now.config.now view.now.heading.node) }
+/// The level state that the node has in the group.
+fn own_in(seen: &GroupView<'_>) -> LevelState
+    ensures { result ≡ level_state_in seen.now.group
+        (state_of seen.now.view.now.config.now seen.now.view.now.heading.node) }
 {
-    LevelState::read(&view.config[view.heading.node as usize], group)
+    let view = seen.view;
+    LevelState::read(&view.config[view.heading.node as usize], &seen.group)
 }
 
-/// Writes the line of a group that has halves, by what its node hears of all nodes.
-fn put_group_line<K: Sink>(
-    writer: &mut Writer<'_, K>,
-    group: &Group,
-    view: &View<'_>,
-    heard: &Heard<'_>,
-    values: &mut Tally,
-)
-    requires halves { 0 < group.now.faults }
-    requires around { IsAround group.now view.now heard.now }
-    requires room { group.now.nodes ≤ values.old.capacity }
-    ensures line { Writes K.told (group_line view.now.heading view.now.faulty.now.ids
-        view.now.config.now view.now.hears heard.now group.now) writer.old writer.new }
-    ensures capacity { values.new.capacity ≡ values.old.capacity }
+/// Writes the line of the group, by what its node hears of all nodes.
+fn put_group_line<K: Sink>(writer: &mut Writer<'_, K>, seen: &GroupView<'_>, room: &mut ValueRoom)
+    ensures { Writes K.told (group_line seen.now.view.now.heading
+        seen.now.view.now.faulty.now.ids seen.now.view.now.config.now seen.now.view.now.hears
+        seen.now.heard.now seen.now.group) writer.old writer.new }
 {
-    let own = own_in(group, view);
-    put_front(writer, group, view, &own);
-    put_held(writer, group, &own);
-    put_heard_if(writer, group, view.hears, &own, heard, values);
+    let own = own_in(seen);
+    put_front(writer, seen, &own);
+    put_held(writer, &seen.group, &own);
+    put_heard_if(writer, seen, &own, room);
     writer.byte(b'\n');
 }
 
@@ -175,21 +153,24 @@ pub fn put_groups<K: Sink>(
     group: &Group,
     view: &View<'_>,
     heard: &Heard<'_>,
-    values: &mut Tally,
+    room: &mut ValueRoom,
 )
-    requires around { IsAround group.now view.now heard.now }
-    requires room { group.now.nodes ≤ values.old.capacity }
-    ensures lines { Writes K.told (group_lines view.now.heading view.now.faulty.now.ids
+    requires { IsAround group.now view.now heard.now }
+    ensures { Writes K.told (group_lines view.now.heading view.now.faulty.now.ids
         view.now.config.now view.now.hears heard.now
         (groups_of group.now view.now.heading.node)) writer.old writer.new }
-    ensures capacity { values.new.capacity ≡ values.old.capacity }
 {
     group.facts();
     if group.faults() == 0 {
         return;
     }
-    put_group_line(writer, group, view, heard, values);
+    let seen = GroupView {
+        view: &*view,
+        group: *group,
+        heard: &*heard,
+    };
+    put_group_line(writer, &seen, room);
     if let Some(half) = group.half_of(view.heading.node) {
-        put_groups(writer, &half, view, heard, values);
+        put_groups(writer, &half, view, heard, room);
     }
 }

@@ -1,18 +1,14 @@
-//! The lines of a node.
+//! The line of a node's state.
 
-ghost use Rattle.std.specs.Prelude.{◌≡◌, ◌≤◌, length, All};
-ghost use Rattle.construction.specs.Plans.{nodes_of};
+ghost use Rattle.std.specs.Prelude.{◌≡◌};
 ghost use Rattle.construction.specs.Steps.{state_of};
 ghost use Rattle.edge_io.specs.Writing.{Writes};
 ghost use Rattle.plan_numbers.specs.Numbers.{levels_in};
 ghost use Rattle.plan_numbers.specs.Stacked.{AreSomeLevels};
-ghost use Rattle.counter_core.specs.Working.{IsWorkFor, IsAsRoomy};
-ghost use Rattle.trace.specs.NodeTexts.{number_of_node, state_line, view_text};
-ghost use Rattle.trace.specs.Views.{StandsIn};
+ghost use Rattle.trace.specs.NodeTexts.{number_of_node, state_line};
 
-use crate::level_lines::put_levels;
-use crate::views::View;
-use counter_core::{Heard, Work, shown};
+use crate::level_groups::LevelGroup;
+use counter_core::shown;
 use edge_io::{Sink, Writer};
 use plan_numbers::{LevelNums, low_in};
 use sync_types::NodeState;
@@ -29,38 +25,16 @@ fn number_of_node(levels: &[LevelNums], v: u32, state: &NodeState) -> Option<u64
     }
 }
 
-/// Writes the line of a node's state.
-fn put_state<K: Sink>(writer: &mut Writer<'_, K>, levels: &[LevelNums], view: &View<'_>)
-    requires levels { AreSomeLevels levels.now }
-    requires deep { All (λ s. length levels.now ≤ length s.registers) view.now.config.now }
-    ensures { Writes K.told (state_line view.now.heading (levels_in levels.now)
-        (state_of view.now.config.now view.now.heading.node)) writer.old writer.new }
+/// Writes the line of a node's state, by the group of all nodes.
+pub fn put_state<K: Sink>(writer: &mut Writer<'_, K>, all: &LevelGroup<'_>)
+    requires { AreSomeLevels all.now.levels.now }
+    ensures { Writes K.told (state_line all.now.view.now.heading (levels_in all.now.levels.now)
+        (state_of all.now.view.now.config.now all.now.view.now.heading.node))
+        writer.old writer.new }
 {
+    let (view, levels) = (all.view, all.levels);
     let state = &view.config[view.heading.node as usize];
     let number = number_of_node(levels, view.heading.node, state);
     let output = shown(levels.len(), state);
     view.heading.put_shown(writer, number, output);
-}
-
-/// Writes the lines of a node, by what it hears of all nodes: that of its state, and those of the
-/// levels in which it takes part.
-pub fn put_node<K: Sink>(
-    writer: &mut Writer<'_, K>,
-    levels: &[LevelNums],
-    view: &View<'_>,
-    heard: &[NodeState],
-    work: &mut Work,
-)
-    requires levels { AreSomeLevels levels.now }
-    requires stands { StandsIn view.now levels.now view.now.heading.node }
-    requires heard { length heard.now ≡ nodes_of (levels_in levels.now) }
-    requires deep { All (λ s. length levels.now ≤ length s.registers) heard.now }
-    requires work { IsWorkFor (length heard.now) work.old }
-    ensures lines { Writes K.told (view_text view.now.heading view.now.faulty.now.ids
-        view.now.config.now view.now.hears (levels_in levels.now) heard.now) writer.old writer.new }
-    ensures work { IsAsRoomy work.old work.new }
-{
-    put_state(writer, levels, view);
-    let group = Heard::of(heard);
-    put_levels(writer, levels, view, view.heading.node, &group, work);
 }

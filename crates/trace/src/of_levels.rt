@@ -1,7 +1,6 @@
 //! The trace of a plan of levels over blocks, and a script.
 
-ghost use Rattle.std.specs.Prelude.{◌≤◌, length, map, string_bytes, IfErr, IfOk};
-ghost use Rattle.texts.specs.Limits.{longest_input};
+ghost use Rattle.std.specs.Prelude.{map, string_bytes, IfErr, IfOk};
 ghost use Rattle.answers.specs.ScriptedRuns.{IsScriptedRun};
 ghost use Rattle.outcomes.specs.Inputs.{scripted_of};
 ghost use Rattle.program_words.specs.Conduct.{Answers, FailsAs};
@@ -22,7 +21,6 @@ use std::alloc::Global;
 
 /// The plan of an input, and the runner of its script on it.
 fn read_levels(alloc: Global, input: &[u8]) -> Result<(Plan, Runner<NoOverlay>), TraceError>
-    requires { length input.now ≤ longest_input }
     ensures read { IfOk result (IsScriptedRun input.now) }
     ensures fails { IfErr result (FailsAs (levels_read (scripted_of input.now))) }
 {
@@ -45,14 +43,12 @@ pub fn write_levels_trace<K: Sink>(
     input: &[u8],
     sink: &mut K,
 ) -> Result<(), TraceError>
-    requires order { want.first ≤ want.last }
-    requires short { length input.now ≤ longest_input }
     ensures { Answers
         (levels_trace_or want (map string_bytes words.now) (scripted_of input.now)) result
         (K.told sink.old) (K.told sink.new) }
 {
     let (plan, mut runner) = read_levels(alloc, input)?;
-    if want.last > runner.script().rounds() {
+    if want.last() > runner.script().rounds() {
         return Err(ProgramError::Refused(TraceReason::NotPlayed));
     }
     let Some(nodes) = named_nodes(alloc, words, plan.nodes())? else {

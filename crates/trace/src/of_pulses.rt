@@ -1,6 +1,6 @@
 //! The trace of a script that a runner plays on a pulse plan.
 
-ghost use Rattle.std.specs.Prelude.{◌≡◌, ◌≤◌, map, string_bytes};
+ghost use Rattle.std.specs.Prelude.{◌≡◌, map, string_bytes};
 ghost use Rattle.program_words.specs.Conduct.{Answers};
 ghost use Rattle.trace.specs.Answers.{pulses_trace};
 
@@ -24,13 +24,12 @@ pub fn write_pulses_trace<K: Sink>(
     runner: &mut Runner<'_, PulseMachine>,
     sink: &mut K,
 ) -> Result<(), TraceError>
-    requires order { want.first ≤ want.last }
-    requires start { runner.old.at ≡ 0 }
+    requires { runner.old.at ≡ 0 }
     ensures { Answers (pulses_trace want (map string_bytes words.now)
         (record { plan = runner.old.machine; script = runner.old.script })) result
         (K.told sink.old) (K.told sink.new) }
 {
-    if want.last > runner.script().rounds() {
+    if want.last() > runner.script().rounds() {
         return Err(ProgramError::Refused(TraceReason::NotPlayed));
     }
     let Some(nodes) = named_nodes(alloc, words, runner.machine().plan().nodes())? else {

@@ -2,9 +2,9 @@ ghost use Rattle.std.specs.Prelude.{◌≡◌, ◌≤◌, IfOk};
 ghost use Rattle.machine_runner.specs.Hearing.{HasRoom};
 ghost use Rattle.trace.specs.PulseDesks.{IsDeskFor};
 
+use crate::rooms::ValueRoom;
 use machine_runner::Runner;
 use machines::Machine;
-use majority_votes::Tally;
 use pulse_plan::PulseMachine;
 use std::alloc::Global;
 use sync_types::{NoMemory, NodeState};
@@ -17,7 +17,7 @@ pub struct PulseBuffers {
     /// What a node hears of all nodes.
     pub heard: Vec<NodeState>,
     /// The room for values that are counted.
-    pub values: Tally,
+    pub room: ValueRoom,
 }
 
 /// Room for a state of each node of a runner.
@@ -38,11 +38,11 @@ impl PulseBuffers {
         runner.facts();
         let config = room_for(alloc, runner)?;
         let heard = room_for(alloc, runner)?;
-        let values = Tally::new(alloc, runner.nodes() as usize).map_err(|_| NoMemory)?;
+        let room = ValueRoom::new(alloc)?;
         Ok(PulseBuffers {
             config,
             heard,
-            values,
+            room,
         })
     }
 }

@@ -10,13 +10,14 @@ ghost use Rattle.pulse_plan.specs.Laws.{machine_in};
 ghost use Rattle.trace.specs.PulseDesks.{IsDeskFor, runner_at};
 ghost use Rattle.trace.specs.PulseNodeTexts.{node_text};
 ghost use Rattle.trace.specs.PulseTraceTexts.{moment_text, trace_text};
-ghost use Rattle.trace.specs.Wants.{IsWithin};
 
+use crate::group_lines::put_groups;
 use crate::headings::Heading;
 use crate::pulse_desks::PulseBuffers;
-use crate::pulse_node_lines::put_node;
+use crate::pulse_node_lines::put_state;
 use crate::views::View;
 use crate::wants::Want;
+use counter_core::Heard;
 use edge_io::{Sink, WriteFault, Writer};
 use machine_runner::Runner;
 use pulse_plan::PulseMachine;
@@ -71,7 +72,9 @@ fn put_node_lines<K: Sink>(
         config: &desk.config,
         hears,
     };
-    put_node(writer, &plan, &view, &desk.heard, &mut desk.values);
+    put_state(writer, &plan, &view);
+    let heard = Heard::of(&desk.heard);
+    put_groups(writer, &plan.whole(), &view, &heard, &mut desk.room);
 }
 
 /// Writes the lines of these nodes in the runner's configuration.
@@ -114,14 +117,15 @@ fn put_moments<K: Sink>(
     desk: &mut PulseBuffers,
 )
     requires start { runner.old.at ≡ 0 }
-    requires within { IsWithin runner.old.script want }
+    requires within { want.last ≤ runner.old.script.rounds }
     requires nodes { All (λ v. v < runner.old.machine.nodes) nodes.now }
     requires desk { IsDeskFor runner.old.script desk.old }
     ensures { Writes K.told (trace_text runner.old.machine runner.old.script nodes.now want.first
         want.last) writer.old writer.new }
 {
-    play(runner, want.first);
-    for _ in want.first..want.last {
+    let (first, last) = (want.first(), want.last());
+    play(runner, first);
+    for _ in first..last {
         put_moment(writer, runner, nodes, desk);
         if writer.has_failed() {
             return;
@@ -142,7 +146,7 @@ pub fn put_pulse_trace<K: Sink>(
     desk: &mut PulseBuffers,
 ) -> Result<(), WriteFault>
     requires start { runner.old.at ≡ 0 }
-    requires within { IsWithin runner.old.script want }
+    requires within { want.last ≤ runner.old.script.rounds }
     requires nodes { All (λ v. v < runner.old.machine.nodes) nodes.now }
     requires desk { IsDeskFor runner.old.script desk.old }
     ensures { Puts result (trace_text runner.old.machine runner.old.script nodes.now want.first

@@ -1,7 +1,7 @@
 //! What the words ask for.
 
-ghost use Rattle.std.specs.Prelude.{◌≡◌, map, string_bytes, IfSome};
-ghost use Rattle.trace.specs.Requests.{are_numbers, node_words, request_of, want_by, IsInOrder};
+ghost use Rattle.std.specs.Prelude.{◌≡◌, map, string_bytes};
+ghost use Rattle.trace.specs.Requests.{are_numbers, node_words, request_of, want_by};
 
 use crate::wants::Want;
 use edge_io::number;
@@ -20,8 +20,7 @@ fn are_numbers(words: &[String]) -> bool
 
 /// The configurations from the one number to the other, if each is one and they are in order.
 fn want_by(first: Option<u64>, last: Option<u64>) -> Option<Want>
-    ensures value { result ≡ want_by first last }
-    ensures order { IfSome result IsInOrder }
+    ensures { result ≡ want_by first last }
 {
     match (first, last) {
         (Some(first), Some(last)) => {
@@ -38,8 +37,7 @@ fn want_by(first: Option<u64>, last: Option<u64>) -> Option<Want>
 /// What these words ask for: None exactly if they ask for no trace. After the numbers of the
 /// configurations stand those of nodes, which only the plan can say to be some.
 pub fn request_of(words: &[String]) -> Option<Want>
-    ensures value { result ≡ request_of (map string_bytes words.now) }
-    ensures order { IfSome result IsInOrder }
+    ensures { result ≡ request_of (map string_bytes words.now) }
 {
     match words {
         [first, last, nodes @ ..] => {

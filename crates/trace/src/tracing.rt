@@ -8,14 +8,16 @@ ghost use Rattle.round_runner.specs.Played.{heard_at};
 ghost use Rattle.trace.specs.Desks.{HasRoom, IsFitFor};
 ghost use Rattle.trace.specs.NodeTexts.{node_text};
 ghost use Rattle.trace.specs.TraceTexts.{moment_text, trace_text};
-ghost use Rattle.trace.specs.Wants.{IsAt, IsToTrace, IsWithin};
+ghost use Rattle.trace.specs.Wants.{IsAt, IsToTrace};
 
 use crate::desks::TraceBuffers;
 use crate::headings::Heading;
-use crate::node_lines::put_node;
+use crate::level_groups::LevelGroup;
+use crate::level_lines::put_levels;
+use crate::node_lines::put_state;
 use crate::views::View;
 use crate::wants::Want;
-use counter_core::NoOverlay;
+use counter_core::{Heard, NoOverlay};
 use edge_io::{Sink, WriteFault, Writer};
 use round_runner::Runner;
 use sync_types::NodeState;
@@ -69,7 +71,14 @@ fn put_node_lines<K: Sink>(
         config: &desk.config,
         hears,
     };
-    put_node(writer, &desk.levels, &view, &desk.heard, &mut desk.work);
+    let all = LevelGroup {
+        view: &view,
+        levels: &desk.levels,
+        place: v,
+        heard: &Heard::of(&desk.heard),
+    };
+    put_state(writer, &all);
+    put_levels(writer, &all, &mut desk.room);
 }
 
 /// Writes the lines of these nodes in the runner's configuration.
@@ -112,14 +121,15 @@ fn put_moments<K: Sink>(
     desk: &mut TraceBuffers,
 )
     requires start { IsToTrace runner.old }
-    requires within { IsWithin runner.old.script want }
+    requires within { want.last ≤ runner.old.script.rounds }
     requires nodes { All (λ v. v < plan_nodes runner.old.plan) nodes.now }
     requires desk { IsFitFor runner.old desk.old }
     ensures { Writes K.told (trace_text runner.old.plan runner.old.script nodes.now want.first
         want.last) writer.old writer.new }
 {
-    play(runner, want.first);
-    for _ in want.first..want.last {
+    let (first, last) = (want.first(), want.last());
+    play(runner, first);
+    for _ in first..last {
         put_moment(writer, runner, nodes, desk);
         if writer.has_failed() {
             return;
@@ -140,7 +150,7 @@ pub fn put_trace<K: Sink>(
     desk: &mut TraceBuffers,
 ) -> Result<(), WriteFault>
     requires start { IsToTrace runner.old }
-    requires within { IsWithin runner.old.script want }
+    requires within { want.last ≤ runner.old.script.rounds }
     requires nodes { All (λ v. v < plan_nodes runner.old.plan) nodes.now }
     requires desk { IsFitFor runner.old desk.old }
     ensures { Puts result (trace_text runner.old.plan runner.old.script nodes.now want.first

@@ -1,6 +1,4 @@
 ghost use Rattle.std.specs.Prelude.{◌≡◌, ◌+◌, ◌<◌, ◌≤◌, length, All};
-ghost use Rattle.sync_types.specs.States.{register_at};
-ghost use Rattle.construction.specs.Steps.{state_of};
 ghost use Rattle.machine_runner.specs.Locks.{is_locked_at};
 ghost use Rattle.trace.specs.Words.{all_have};
 
@@ -19,6 +17,7 @@ pub struct View<'a> {
     /// Whether a round follows, in which nodes hear one another.
     pub hears: bool,
     ghost node: { heading.node < length config.now },
+    ghost few: { length config.now ≤ 256 },
 }
 
 /// Whether a register is marked and has this value.
@@ -29,20 +28,10 @@ fn is_locked_at(value: u64, register: Reg) -> bool
 }
 
 impl View<'_> {
-    /// The node's own register with that index.
-    pub fn own_register(&self, register: usize) -> Reg
-        requires { All (λ s. register < length s.registers) self.now.config.now }
-        ensures { result
-            ≡ register_at register (state_of self.now.config.now self.now.heading.node) }
-    {
-        self.config[self.heading.node as usize].reg(register)
-    }
-
     /// Whether each correct one of so many nodes, from `first` on, has this finite value in the
     /// register with that index, marked.
     pub fn all_have(&self, register: usize, first: u32, many: u32, value: Option<u64>) -> bool
         requires within { first + many ≤ length self.now.config.now }
-        requires few { first + many ≤ 256 }
         requires deep { All (λ s. register < length s.registers) self.now.config.now }
         ensures { result ≡ all_have register first many self.now.faulty.now.ids
             self.now.config.now value }

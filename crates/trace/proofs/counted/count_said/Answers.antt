@@ -1,4 +1,4 @@
-use Rattle.std.proofs.Common.{◌≡◌, ℕ, List, map, take, drop, Option, ap, ap₂, ◌∙◌}
+use Rattle.std.proofs.Common.{ℕ, List, map, take, drop, Option, ap, ap₂, ◌∙◌}
 use Rattle.counting.specs.Values.{count_of, least_above}
 use Rattle.sync_types.specs.States.{State, register_at}
 use Rattle.counter_core.specs.HeardRegisters.{RegisterHeard, values_heard}
@@ -10,16 +10,16 @@ use Rattle.trace.proofs.counted.count_said.Goals as goal
 
 pub returns-clause-left : goal.returns-clause-left
 returns-clause-left c =
-    c.count_group-counts.ensures.saw_left ∙ marks_left c.args.group.now c.args.heard.now
+    c.count_group-counts.ensures.saw_left ∙ marks_left c.args.seen.now.group c.args.seen.now.heard.now
 
 pub returns-clause-right : goal.returns-clause-right
 returns-clause-right c =
-    c.count_group-counts.ensures.saw_right ∙ marks_right c.args.group.now c.args.heard.now
+    c.count_group-counts.ensures.saw_right ∙ marks_right c.args.seen.now.group c.args.seen.now.heard.now
 
 pub returns-clause-same : goal.returns-clause-same
 returns-clause-same c =
-    let group = c.args.group.now in
-    let heard = c.args.heard.now in
+    let group = c.args.seen.now.group in
+    let heard = c.args.seen.now.heard.now in
     c.count_group-counts.ensures.same
     ∙ (ap (λ (values : List (Option _)). count_of values c.own.inside.register.a)
     (values_are group heard)
@@ -28,8 +28,8 @@ returns-clause-same c =
 
 pub returns-clause-least : goal.returns-clause-least
 returns-clause-least c =
-    let group = c.args.group.now in
-    let heard = c.args.heard.now in
+    let group = c.args.seen.now.group in
+    let heard = c.args.seen.now.heard.now in
     let of : (register faults : ℕ) → List State → Option ℕ = λ register faults states.
     least_above faults (map (λ s. (register_at register s).a) states) in
     c.least-least.ensures.least

@@ -6,7 +6,7 @@ use Rattle.trace.proofs.group_lines.own_in.Goals as goal
 
 pub returns : goal.returns
 returns c =
-    let view = c.args.view.now in
+    let view = c.args.seen.now.view.now in
     c.read.ensures
-    ∙ ap (level_state_in c.args.group.now)
+    ∙ ap (level_state_in c.args.seen.now.group)
     (within view.config.now view.heading.node c.index-view-view.result (zero_state 0) view.node)

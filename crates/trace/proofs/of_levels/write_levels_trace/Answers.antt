@@ -24,7 +24,8 @@ returns-in_err-put_trace g c =
     let le : c.args.want.last ≤ c.in_ok-plan.runner.script.rounds =
     omega (
       arith,
-      c.if-want-rounds.false,
+      c.if-last-rounds.false,
+      c.last.ensures.value,
       c.rounds.ensures.value,
       ap (λ s. s.rounds) c.script.ensures,
     ) in
@@ -40,7 +41,8 @@ returns g c =
     let le : c.args.want.last ≤ c.in_ok-plan.runner.script.rounds =
     omega (
       arith,
-      c.if-want-rounds.false,
+      c.if-last-rounds.false,
+      c.last.ensures.value,
       c.rounds.ensures.value,
       ap (λ s. s.rounds) c.script.ensures,
     ) in

@@ -29,7 +29,8 @@ returns-in_err-put_pulse_trace g c =
     let le : c.args.want.last ≤ r.script.rounds =
     omega (
       arith,
-      c.if-want-rounds.false,
+      c.if-last-rounds.false,
+      c.last.ensures.value,
       c.rounds.ensures.value,
       ap (λ s. s.rounds) c.script.ensures,
     ) in
@@ -48,7 +49,8 @@ returns g c =
     let le : c.args.want.last ≤ r.script.rounds =
     omega (
       arith,
-      c.if-want-rounds.false,
+      c.if-last-rounds.false,
+      c.last.ensures.value,
       c.rounds.ensures.value,
       ap (λ s. s.rounds) c.script.ensures,
     ) in

@@ -23,7 +23,6 @@ loop-i-init g c =
         config = subst (λ (xs : List State). HasRoom c.args.runner.now.script xs) (sym items)
             c.lay_states.ensures.room;
         heard = fit.heard;
-        values = fit.values;
       };
       laid = items ∙ c.lay_states.ensures.states;
     }

@@ -1,4 +1,4 @@
-use Rattle.std.proofs.Common.{◌≡◌, ℕ, List, length, sym, ap, ◌∙◌, subst, arith}
+use Rattle.std.proofs.Common.{ℕ, List, length, sym, ap, ◌∙◌, subst, arith}
 use Rattle.std.proofs.lemmas.List.{with_items_is}
 use Rattle.sync_types.specs.FaultSets.{FaultIds, is_in}
 use Rattle.sync_types.specs.States.{State}
@@ -8,7 +8,7 @@ use Rattle.machine_runner.specs.Runners.{Running, states_of}
 use Rattle.pulse_plan.specs.Laws.{machine_in}
 use Rattle.pulse_plan.specs.Plans.{PulseNumbers, IsAccepted}
 use Rattle.pulse_plan.proofs.Sound.{nodes_are}
-use Rattle.edge_io.proofs.Writing.{writes_is}
+use Rattle.edge_io.proofs.Writing.{writes_is, writes_then}
 use Rattle.trace.proofs.Around.{whole_around}
 use Rattle.trace.proofs.PulseHearing.{view_is}
 use Rattle.trace.proofs.pulse_tracing.put_node_lines.Goals as goal
@@ -27,31 +27,24 @@ invariant_of-view g c =
     let nodes = c.facts.ensures.read.right.nodes in
     let size = c.requires.desk.config.size in
     let long = ap (λ (xs : List State). length xs) c.deref.ensures.value in
-    omega (arith, nodes_are r.machine accepted, c.requires.node, nodes, size, long)
+    record {
+      node = omega (arith, nodes_are r.machine accepted, c.requires.node, nodes, size, long);
+      few = omega (arith, nodes_are r.machine accepted, accepted.most_nodes, nodes, size, long);
+    }
 
-pub put_node-requires-clause-around : goal.put_node-requires-clause-around
-put_node-requires-clause-around g c =
+pub put_groups-requires : goal.put_groups-requires
+put_groups-requires g c =
     let r = c.args.runner.now in
     let plan_is = c.plan-plan.ensures ∙ c.machine.ensures in
     let accepted = subst (λ (p : PulseNumbers). IsAccepted p) plan_is c.facts-2.ensures in
     let long = c.hear-hears.auto.heard ∙ c.deref_mut.ensures.len in
-    let heard = c.deref-2.ensures.value
+    let heard = c.of-heard.ensures ∙ c.deref-2.ensures.value
     ∙ with_items_is c.args.desk.now.heard c.hear-hears.new.heard long in
-    whole_around r.machine c.plan-plan.result r.script _ _ plan_is accepted c.facts.ensures.read
-    c.requires.node
+    rw c.whole.ensures (whole_around r.machine c.plan-plan.result r.script _ _ plan_is accepted
+    c.facts.ensures.read c.requires.node
     (subst (λ (xs : List State). HasRoom r.script xs) (sym c.deref.ensures.value)
     c.requires.desk.config)
-    (subst (λ (xs : List State). HasRoom r.script xs) (sym heard) c.hear-hears.ensures.room)
-
-pub put_node-requires-clause-room : goal.put_node-requires-clause-room
-put_node-requires-clause-room g c =
-    let r = c.args.runner.now in
-    let plan_is = c.plan-plan.ensures ∙ c.machine.ensures in
-    let accepted = subst (λ (p : PulseNumbers). IsAccepted p) plan_is c.facts-2.ensures in
-    let nodes = c.facts.ensures.read.right.nodes in
-    let own = ap (λ (p : PulseNumbers). p.nodes) plan_is in
-    let room = c.requires.desk.values in
-    omega (arith, nodes_are r.machine accepted, nodes, own, room)
+    (subst (λ (xs : List State). HasRoom r.script xs) (sym heard) c.hear-hears.ensures.room))
 
 pub returns-clause-lines : goal.returns-clause-lines
 returns-clause-lines g c =
@@ -66,7 +59,7 @@ returns-clause-lines g c =
     (c.contains.ensures ∙ ap (λ (xs : List ℕ). is_in xs c.args.v) ids) ids
     (c.deref.ensures.value ∙ c.requires.laid) c.hear-hears.ensures.hears
     (c.plan-plan.ensures ∙ c.machine.ensures)
-    (λ hears. c.deref-2.ensures.value
+    (λ hears. c.of-heard.ensures ∙ c.deref-2.ensures.value
     ∙ (with_items_is c.args.desk.now.heard c.hear-hears.new.heard long
     ∙ c.hear-hears.ensures.heard hears)))
-    c.put_node.ensures.lines
+    (writes_then c.put_state.ensures (rw c.whole.ensures at c.put_groups.ensures))

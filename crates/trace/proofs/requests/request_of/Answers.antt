@@ -9,7 +9,7 @@ none_short [] few = refl
 none_short (word ∷ []) few = refl
 none_short (word ∷ next ∷ words) few = absurd (omega (arith, few))
 
-pub returns-in_default-clause-value : goal.returns-in_default-clause-value
-returns-in_default-clause-value c =
+pub returns-in_default : goal.returns-in_default
+returns-in_default c =
     none_short (map string_bytes c.args.words.now)
     (omega (arith, length-map c.args.words.now string_bytes, c.in_default.len_below))

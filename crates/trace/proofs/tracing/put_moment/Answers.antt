@@ -33,7 +33,6 @@ loop-i-init g c =
               c.lay_states.ensures.deep;
         };
         heard = fit.heard;
-        work = fit.work;
       };
       laid = items ∙ c.lay_states.ensures.states;
     }

@@ -1,15 +1,18 @@
-use Rattle.std.proofs.Common.{◌+◌, [], sym, subst, ◌∙◌, arith}
+use Rattle.std.proofs.Common.{ℕ, ◌+◌, [], sym, subst, ◌∙◌, arith}
 use Rattle.trace.specs.Wants.{IsAt}
 use Rattle.trace.proofs.LevelsTraced.{has_round, at_more, fit_here, fit_back, nodes_here, text}
 use Rattle.trace.proofs.LevelsTraced.{text_is}
-use Rattle.trace.proofs.WordsSoFar.{so_far_all, so_far_more, so_far_none, so_far_stop}
+use Rattle.trace.proofs.WordsSoFar.{SoFar, so_far_all, so_far_more, so_far_none, so_far_stop}
 use Rattle.trace.proofs.tracing.put_moments.Goals as goal
 
 pub loop-init : goal.loop-init
 loop-init g c = record {
   here = c.play.ensures;
-  so_far = so_far_none g.K.Sink.told (text c.args.runner.now c.args.nodes.now c.args.want.first)
-      c.args.want.first c.args.want.last c.args.writer.now;
+  so_far = subst (λ (t : ℕ). SoFar g.K.Sink.told
+      (text c.args.runner.now c.args.nodes.now c.args.want.first) c.args.want.first
+      c.args.want.last t c.args.writer.now c.args.writer.now) (sym c.first-first.ensures)
+      (so_far_none g.K.Sink.told (text c.args.runner.now c.args.nodes.now c.args.want.first)
+      c.args.want.first c.args.want.last c.args.writer.now);
   desk = c.requires.desk;
 }
 
@@ -33,14 +36,14 @@ returns-then-has_failed g c =
     let more = so_far_more g.K.Sink.told (text start nodes first) first last t _ _ inv.so_far _ _
     (text_is start nodes first t _ inv.here inv.so_far.from) c.put_moment.ensures.lines in
     so_far_stop g.K.Sink.told (text start nodes first) first last (t + 1) _ _ more
-    (omega (arith, c.loop-test.true)) (sym c.has_failed.ensures ∙ c.if-has_failed.true)
+    (omega (arith, c.loop-test.true, c.last-last.ensures.value)) (sym c.has_failed.ensures ∙ c.if-has_failed.true)
 
 pub round-requires : goal.round-requires
 round-requires g c =
     let here = subst (IsAt c.args.runner.now c.loop.counter) (sym c.put_moment.ensures.same)
     c.loop.invariant.here in
     has_round c.args.runner.now c.loop.counter _ here
-    (omega (arith, c.loop-test.true, c.requires.within.last))
+    (omega (arith, c.loop-test.true, c.last-last.ensures.value, c.requires.within))
 
 pub loop-preserved : goal.loop-preserved
 loop-preserved g c =
@@ -78,4 +81,11 @@ returns g c =
     so_far_all g.K.Sink.told (text start nodes first) first last (t + 1) _ _
     (so_far_more g.K.Sink.told (text start nodes first) first last t _ _ inv.so_far _ _
     (text_is start nodes first t _ inv.here inv.so_far.from) c.put_moment-2.ensures.lines)
-    (omega (arith, c.loop.auto.counter-end, c.loop-test.false, c.requires.within.order))
+    (omega (
+      arith,
+      c.loop.auto.counter-end,
+      c.loop-test.false,
+      c.first-first.ensures,
+      c.last-last.ensures.value,
+      c.last-last.ensures.order,
+    ))

@@ -6,7 +6,7 @@ use Rattle.adversary_script.specs.Scripts.{Script}
 use Rattle.adversary_script.specs.Eras.{faulty_at}
 use Rattle.round_runner.specs.Runners.{Running}
 use Rattle.trace.proofs.Hearing.{view_is}
-use Rattle.edge_io.proofs.Writing.{writes_is}
+use Rattle.edge_io.proofs.Writing.{writes_is, writes_then}
 use Rattle.trace.proofs.tracing.put_node_lines.Goals as goal
 
 pub returns-clause-lines : goal.returns-clause-lines
@@ -23,7 +23,7 @@ returns-clause-lines g c =
     (c.contains.ensures ∙ ap (λ (xs : List ℕ). is_in xs c.args.v) ids) ids
     (c.deref.ensures.value ∙ c.requires.laid) c.hear-hears.ensures.hears
     (ap levels_in c.deref-2.ensures.value ∙ c.requires.desk.levels)
-    (λ hears. c.deref-3.ensures.value
+    (λ hears. c.of.ensures ∙ c.deref-3.ensures.value
     ∙ (with_items_is c.args.desk.now.heard c.hear-hears.new.heard long
     ∙ c.hear-hears.ensures.heard hears)))
-    c.put_node.ensures.lines
+    (writes_then c.put_state.ensures c.put_levels.ensures)

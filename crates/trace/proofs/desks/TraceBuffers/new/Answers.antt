@@ -5,7 +5,6 @@ use Rattle.plan_numbers.specs.Numbers.{levels_in, numbers_of}
 use Rattle.plan_numbers.specs.Premises.{LevelsAccepted}
 use Rattle.plan_numbers.specs.Stacked.{AreSomeLevels}
 use Rattle.plan_numbers.proofs.LevelLaws.{levels_in-numbers_of, length-numbers_of}
-use Rattle.counter_core.specs.Working.{IsWorkFor}
 use Rattle.trace.specs.Desks.{HasRoom}
 use Rattle.trace.proofs.desks.TraceBuffers.new.Goals as goal
 
@@ -36,5 +35,4 @@ returns c =
           c.in_ok-config.ensures;
       heard = subst (λ (n : ℕ). HasRoom n depth c.in_ok-heard.heard.items) nodes
           c.in_ok-heard.ensures;
-      work = subst (λ (n : ℕ). IsWorkFor n c.in_ok-work.work) nodes c.in_ok-work.ensures.room;
     }

@@ -22,12 +22,12 @@ loop-i-preserved g c =
     let i = c.loop-i.i in
     let is = c.vote.ensures.vote
     ∙ ap (λ (p : Placed). vote (level_of p.nums) (block_nodes p.nums)
-    (take (in_blocks p.nums) c.loop-i.work.outputs.items) i) c.self.view_is
+    (take (in_blocks p.nums) c.loop-i.room.work.outputs.items) i) c.self.view_is
     ∙ ap (λ o. vote (level_of nums) (block_nodes nums) (take (in_blocks nums) o.items) i)
     c.loop-i.invariant.work.outputs in
     record {
       wrote = writes_next (vote_word (block_nodes nums) (level_of nums)
-          (take (in_blocks nums) c.args.work.now.outputs.items)) 0 i i c.loop-i.invariant.wrote
+          (take (in_blocks nums) c.args.room.now.work.outputs.items)) 0 i i c.loop-i.invariant.wrote
           (writes_is (ap (λ (x : ℕ). codes " " ++ decimal x) is) c.labelled.ensures)
           (zero-add i);
       work = record {
@@ -47,5 +47,5 @@ returns-clause-words g c =
       ap (λ (p : Placed). p.nums.blocks) c.self.view_is,
     ) in
     writes_is (ap (λ (n : ℕ). flat_map (vote_word (block_nodes nums) (level_of nums)
-    (take (in_blocks nums) c.args.work.now.outputs.items)) (range_with_len 0 n)) all)
+    (take (in_blocks nums) c.args.room.now.work.outputs.items)) (range_with_len 0 n)) all)
     c.loop-i.invariant.wrote

@@ -11,7 +11,7 @@ use Rattle.trace.proofs.places.Place.put_each_vote.Given as goal
 abbrev pub invariant-loop-i : goal.invariant-loop-i
 invariant-loop-i g l = record {
   wrote : Writes g.K.Sink.told (flat_map (vote_word (block_nodes l.self.nums)
-      (level_of l.self.nums) (take (in_blocks l.self.nums) l.fn.work.outputs.items))
+      (level_of l.self.nums) (take (in_blocks l.self.nums) l.fn.room.work.outputs.items))
       (range_with_len 0 l.i)) l.fn.writer l.writer;
-  work : KeepsOutputs l.fn.work l.work;
+  work : KeepsOutputs l.fn.room.work l.room.work;
 }

@@ -20,8 +20,8 @@ laid_is l blocks n size items group same is =
 pub block_nodes-requires : goal.block_nodes-requires
 block_nodes-requires g c = (related c.self.inside.nums.now c.self.invariant.numbers).sized
 
-pub returns-clause-part : goal.returns-clause-part
-returns-clause-part g c =
+pub returns : goal.returns
+returns g c =
     let nums = c.args.self.now.nums in
     let first = c.args.self.now.first in
     let laid = subst (λ (p : Placed). take (in_blocks p.nums) c.set_outputs.new.work.outputs.items
@@ -35,4 +35,4 @@ returns-clause-part g c =
     (writes_then
     (writes_is (ap (turn_part (block_nodes nums) (level_of nums) first) still)
     c.put_turn.ensures.part)
-    c.put_counts.ensures.part)
+    c.put_counts.ensures)

@@ -12,8 +12,8 @@ use Rattle.trace.specs.Places.{Placed}
 use Rattle.counter_core.proofs.StateLists.{within}
 use Rattle.trace.proofs.places.Place.put_level_line.Goals as goal
 
-pub returns-clause-line : goal.returns-clause-line
-returns-clause-line g c =
+pub returns : goal.returns
+returns g c =
     let place = c.args.self.now in
     let view = place.view in
     let nums = place.nums in
@@ -32,4 +32,4 @@ returns-clause-line g c =
     c.put_level_front.ensures)
     (writes_then (writes_is (ap (λ (own : Reg). heard_if view.hears place.below
     (block_nodes nums) (level_of nums) place.first own.a place.group) own)
-    c.put_heard_if.ensures.part) c.byte.ensures)
+    c.put_heard_if.ensures) c.byte.ensures)
