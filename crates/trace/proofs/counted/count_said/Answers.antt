@@ -10,11 +10,13 @@ use Rattle.trace.proofs.counted.count_said.Goals as goal
 
 pub returns-clause-left : goal.returns-clause-left
 returns-clause-left c =
-    c.count_group-counts.ensures.saw_left ∙ marks_left c.args.seen.now.group c.args.seen.now.heard.now
+    c.count_group-counts.ensures.saw_left
+    ∙ marks_left c.args.seen.now.group c.args.seen.now.heard.now
 
 pub returns-clause-right : goal.returns-clause-right
 returns-clause-right c =
-    c.count_group-counts.ensures.saw_right ∙ marks_right c.args.seen.now.group c.args.seen.now.heard.now
+    c.count_group-counts.ensures.saw_right
+    ∙ marks_right c.args.seen.now.group c.args.seen.now.heard.now
 
 pub returns-clause-same : goal.returns-clause-same
 returns-clause-same c =

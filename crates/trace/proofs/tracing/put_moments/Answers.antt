@@ -36,7 +36,8 @@ returns-then-has_failed g c =
     let more = so_far_more g.K.Sink.told (text start nodes first) first last t _ _ inv.so_far _ _
     (text_is start nodes first t _ inv.here inv.so_far.from) c.put_moment.ensures.lines in
     so_far_stop g.K.Sink.told (text start nodes first) first last (t + 1) _ _ more
-    (omega (arith, c.loop-test.true, c.last-last.ensures.value)) (sym c.has_failed.ensures ∙ c.if-has_failed.true)
+    (omega (arith, c.loop-test.true, c.last-last.ensures.value))
+    (sym c.has_failed.ensures ∙ c.if-has_failed.true)
 
 pub round-requires : goal.round-requires
 round-requires g c =

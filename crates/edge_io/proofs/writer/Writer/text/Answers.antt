@@ -7,12 +7,15 @@ pub loop-at-init : goal.loop-at-init
 loop-at-init g c = record { within = omega arith; writes = writes_none }
 
 pub loop-at-preserved : goal.loop-at-preserved
-loop-at-preserved g c = record {
-  within = omega (arith, c.loop-at-test.true, c.loop-at.invariant.within, c.next_room-count.ensures.most);
-  writes = writes_is (part_taken c.loop-at.at (c.loop-at.at + c.next_room-count.result) c.args.bytes.now
-      (omega arith))
-      (writes_then c.loop-at.invariant.writes c.short_text.ensures);
-}
+loop-at-preserved g c =
+    let at = c.loop-at.at in
+    let count = c.next_room-count.result in
+    let most = c.next_room-count.ensures.most in
+    record {
+      within = omega (arith, c.loop-at-test.true, c.loop-at.invariant.within, most);
+      writes = writes_is (part_taken at (at + count) c.args.bytes.now (omega arith))
+          (writes_then c.loop-at.invariant.writes c.short_text.ensures);
+    }
 
 pub returns : goal.returns
 returns g c =
