@@ -1,8 +1,7 @@
 //! Draws what `run`, `trace`, `sweep` or `choose` writes.
 
 ghost use Rattle.std.specs.Prelude.{◌≡◌, true, IfOk};
-ghost use Rattle.run_pictures.specs.Drawn.{ChoiceAs, Does, DrawsAs, FigureAs, PulsesAs, RowsAs};
-ghost use Rattle.run_pictures.specs.Drawn.{SweepAs, TraceAs};
+ghost use Rattle.run_pictures.specs.Drawn.{Does, DrawsAs, DrawsFigure};
 
 use crate::pages::{Form, put_formed};
 use crate::reading::read_chart;
@@ -71,7 +70,7 @@ fn draw_figure<K: Sink, F: Figure>(
     form: Form,
     sink: &mut K,
 ) -> Result<(), DrawError>
-    ensures { Does result (FigureAs F.text F.picture F.laid form text.now)
+    ensures { Does result (DrawsFigure F.text F.picture F.laid form text.now)
         (K.told sink.old) (K.told sink.new) }
 {
     if !is_text_of(alloc, figure, text)? || !figure.is_laid() {
@@ -85,66 +84,6 @@ fn draw_figure<K: Sink, F: Figure>(
     }
 }
 
-/// Draws a text that `run` wrote.
-fn draw_rows<K: Sink>(alloc: Global, text: &[u8], form: Form, sink: &mut K) -> Result<(), DrawError>
-    ensures { Does result (RowsAs form text.now) (K.told sink.old) (K.told sink.new) }
-{
-    let chart = read_chart(alloc, text)?;
-    draw_figure(alloc, &chart, text, form, sink)
-}
-
-/// Draws a text that `trace` wrote.
-fn draw_trace<K: Sink>(
-    alloc: Global,
-    text: &[u8],
-    form: Form,
-    sink: &mut K,
-) -> Result<(), DrawError>
-    ensures { Does result (TraceAs form text.now) (K.told sink.old) (K.told sink.new) }
-{
-    let trace = trace_of(alloc, text)?;
-    draw_figure(alloc, &trace, text, form, sink)
-}
-
-/// Draws a text that `trace` wrote of a pulse plan.
-fn draw_pulses<K: Sink>(
-    alloc: Global,
-    text: &[u8],
-    form: Form,
-    sink: &mut K,
-) -> Result<(), DrawError>
-    ensures { Does result (PulsesAs form text.now) (K.told sink.old) (K.told sink.new) }
-{
-    let trace = pulse_trace_of(alloc, text)?;
-    draw_figure(alloc, &trace, text, form, sink)
-}
-
-/// Draws a text that `sweep` wrote.
-fn draw_sweep<K: Sink>(
-    alloc: Global,
-    text: &[u8],
-    form: Form,
-    sink: &mut K,
-) -> Result<(), DrawError>
-    ensures { Does result (SweepAs form text.now) (K.told sink.old) (K.told sink.new) }
-{
-    let sweep = read_sweep(alloc, text)?;
-    draw_figure(alloc, &sweep, text, form, sink)
-}
-
-/// Draws a text that `choose` wrote.
-fn draw_choice<K: Sink>(
-    alloc: Global,
-    text: &[u8],
-    form: Form,
-    sink: &mut K,
-) -> Result<(), DrawError>
-    ensures { Does result (ChoiceAs form text.now) (K.told sink.old) (K.told sink.new) }
-{
-    let choice = read_choice(alloc, text)?;
-    draw_figure(alloc, &choice, text, form, sink)
-}
-
 /// Draws a text that `run`, `trace`, `sweep` or `choose` wrote. If it answers Ok, the text is that
 /// of a chart, of a trace of either kind, of a sweep or of a choice, letter for letter, and the
 /// picture of this was written, or the page of it.
@@ -156,14 +95,19 @@ pub fn draw<K: Sink>(alloc: Global, text: &[u8], form: Form, sink: &mut K) -> Re
     ensures { Does result (DrawsAs form text.now) (K.told sink.old) (K.told sink.new) }
 {
     if is_pulse_trace(text) {
-        draw_pulses(alloc, text, form, sink)
+        let trace = pulse_trace_of(alloc, text)?;
+        draw_figure(alloc, &trace, text, form, sink)
     } else if is_trace(alloc, text)? {
-        draw_trace(alloc, text, form, sink)
+        let trace = trace_of(alloc, text)?;
+        draw_figure(alloc, &trace, text, form, sink)
     } else if is_sweep(text) {
-        draw_sweep(alloc, text, form, sink)
+        let sweep = read_sweep(alloc, text)?;
+        draw_figure(alloc, &sweep, text, form, sink)
     } else if is_choice(text) {
-        draw_choice(alloc, text, form, sink)
+        let choice = read_choice(alloc, text)?;
+        draw_figure(alloc, &choice, text, form, sink)
     } else {
-        draw_rows(alloc, text, form, sink)
+        let chart = read_chart(alloc, text)?;
+        draw_figure(alloc, &chart, text, form, sink)
     }
 }
