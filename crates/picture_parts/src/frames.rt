@@ -8,6 +8,9 @@ ghost use Rattle.picture_parts.specs.Frames.{line_top, middle, right, spot_top, 
 /// How many columns stand side by side at most.
 pub const MOST_COLUMNS: u32 = 120;
 
+/// How many rounds a script has at most: no configuration has a higher number.
+pub const MOST_ROUNDS: u32 = 1_000_000;
+
 /// What all parts of a picture stand in.
 #[derive(Clone, Copy)]
 pub struct Frame {
@@ -133,7 +136,7 @@ pub fn band_height(nodes: u16) -> u32
     80 + 18 * u32::from(nodes)
 }
 
-/// How many digits the number of a configuration has, which is at most 1000000.
+/// How many digits the number of a configuration has, which is at most [`MOST_ROUNDS`].
 pub fn digits_of(t: u32) -> u16 {
     match t {
         0..=9 => 1,

@@ -25,8 +25,8 @@ pub use errors::{ChartError, LineError, Wanted};
 pub use faces::{Face, face_of};
 pub use figures::Figure;
 pub use frames::{
-    CellPosition, Frame, MOST_COLUMNS, band_height, band_top, bottom, configuration, digits_of,
-    left, line_top, middle, spot_top, width,
+    CellPosition, Frame, MOST_COLUMNS, MOST_ROUNDS, band_height, band_top, bottom, configuration,
+    digits_of, left, line_top, middle, spot_top, width,
 };
 pub use fronts::{picture_width, put_front, put_ground};
 pub use hits::breaks;

@@ -4,7 +4,7 @@ use crate::pulse_laid::{is_later, strip_of};
 use crate::pulse_lines::{PulseLine, pulse_line};
 use crate::pulse_notes::{Member, PulseNote, PulseTrace, Strip, Told};
 use edge_io::{Lines, first_line};
-use picture_parts::{ChartError, Frame, Wanted, digits_of};
+use picture_parts::{ChartError, Frame, MOST_ROUNDS, Wanted, digits_of};
 use std::alloc::Global;
 use trace_pictures::{MOST_NODES, TraceFault, length_of};
 
@@ -208,7 +208,7 @@ fn longest_of(member: &Member) -> u16 {
 
 /// Takes what a line says.
 fn take(draft: &mut Draft, line: &PulseLine) -> Result<(), TraceFault> {
-    if line.t > 1000000 || !agrees(draft, line) {
+    if line.t > MOST_ROUNDS || !agrees(draft, line) {
         return Err(TraceFault::Unwanted);
     }
     take_place(draft, line)?;

@@ -4,7 +4,9 @@ use crate::charts::{Cell, Chart, End};
 use crate::hits::mark_hits;
 use crate::lines::{era_line, locked_line, shown};
 use edge_io::{Lines, Words};
-use picture_parts::{ChartError, LineError, Wanted, digits_of, number_after, number_behind};
+use picture_parts::{
+    ChartError, LineError, MOST_ROUNDS, Wanted, digits_of, number_after, number_behind,
+};
 use std::alloc::Global;
 
 /// How many nodes a row has at most.
@@ -88,7 +90,7 @@ fn end_row(chart: &mut Chart, nodes: u16) -> Result<(), LineError> {
 fn take_row(draft: &mut Draft, line: &[u8]) -> Result<(), LineError> {
     let mut words = Words::new(line);
     match number_behind(&mut words, b"row") {
-        Some(t) if is_next(&mut draft.chart, t) && t <= 1000000 => {
+        Some(t) if is_next(&mut draft.chart, t) && t <= MOST_ROUNDS => {
             let nodes = take_words(&mut draft.chart, words)?;
             draft.wanted = Wanted::Further;
             end_row(&mut draft.chart, nodes)

@@ -4,7 +4,7 @@ use crate::sweep_charts::{Sweep, Tally, Tick};
 use crate::sweep_laid::{band_behind, comes_behind, total_before, upto_before};
 use edge_io::{Lines, Words, number};
 use picture_parts::{
-    ChartError, LineError, Wanted, next_is, number_after, number_behind, small_or_none,
+    ChartError, LineError, MOST_ROUNDS, Wanted, next_is, number_after, number_behind, small_or_none,
 };
 use std::alloc::Global;
 
@@ -74,7 +74,7 @@ fn take_bound(lines: &mut Lines<'_>) -> Result<u64, ChartError> {
 /// Whether a line's numbers are such as a script may have.
 fn is_sound(tally: Tally) -> bool {
     let locked = tally.locked.unwrap_or(tally.era);
-    tally.runs > 0 && tally.era <= locked && locked <= 1000000
+    tally.runs > 0 && tally.era <= locked && locked <= MOST_ROUNDS
 }
 
 /// Takes a line, after those before it.

@@ -3,7 +3,7 @@
 use crate::trace_lines::{TraceFault, TraceLine, trace_line};
 use crate::traces::{Register, Seen, Trace};
 use edge_io::{Lines, first_line};
-use picture_parts::{ChartError, Frame, Wanted, digits_of};
+use picture_parts::{ChartError, Frame, MOST_ROUNDS, Wanted, digits_of};
 use std::alloc::Global;
 
 /// How many nodes a trace has at most.
@@ -133,7 +133,7 @@ fn longest_of(register: &Register) -> u16 {
 
 /// Takes what a line says.
 fn take(draft: &mut Draft, line: &TraceLine) -> Result<(), TraceFault> {
-    if line.t > 1000000 {
+    if line.t > MOST_ROUNDS {
         return Err(TraceFault::Unwanted);
     }
     let digits = match &line.seen {
