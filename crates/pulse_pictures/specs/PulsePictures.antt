@@ -5,37 +5,11 @@ use Rattle.picture_parts.specs.declared.frames.Frame.{Frame}
 use Rattle.picture_parts.specs.Frames.{bottom}
 use Rattle.picture_parts.specs.Captions.{colour_legend, number_caption, span_caption}
 use Rattle.picture_parts.specs.Fronts.{picture_front, picture_ground, picture_width}
-use Rattle.trace_pictures.specs.TracePictures.{dots, start_mark}
+use Rattle.trace_pictures.specs.TracePictures.{dots, legend, start_mark}
 use Rattle.pulse_pictures.specs.declared.pulse_notes.PulseTrace.{PulseTrace}
 use Rattle.pulse_pictures.specs.Members.{heading_picture, pulse_note_picture, stand_picture}
 
 -- ---- below the bands
-
--- what the registers and the kings' phases mean, from that height on
-abbrev pub register_legend : (y : ℕ) → List ℕ
-register_legend y = concat (
-    codes "<g text-anchor='start' transform='translate(4," ∷ decimal y
-    ∷ codes ")'>\n<rect width='18' height='18' fill='whitesmoke'/>"
-    ∷ codes "<path d='M6 6l6 6m0 -6l-6 6' stroke='dimgray'/><text x='24' y='13'>no value</text>\n"
-    ∷ codes "<rect x='110' width='18' height='18' fill='#fde9b0'/>"
-    ∷ codes "<text x='134' y='13'>unmarked</text>\n"
-    ∷ codes "<rect y='22' width='18' height='18' fill='#b5d3f2'/>"
-    ∷ codes "<rect y='22' width='18' height='18' fill='url(#marked)'/>"
-    ∷ codes "<text x='24' y='35'>marked</text>\n"
-    ∷ codes "<rect x='110' y='22' width='18' height='18' fill='#a6dba0'/>"
-    ∷ codes "<path d='M112 24h14v14H112z' fill='none' stroke='darkgreen' stroke-width='2'/>"
-    ∷ codes "<text x='134' y='35'>locked</text>\n"
-    ∷ codes "<rect y='44' width='18' height='18' fill='url(#faulty)'/>"
-    ∷ codes "<text x='24' y='57'>faulty</text>\n"
-    ∷ codes "<rect x='110' y='44' width='18' height='18' fill='silver'/>"
-    ∷ codes "<path d='M110 44h8l-8 8z'/>"
-    ∷ codes "<text x='134' y='57'>hit by an era's start</text>\n"
-    ∷ codes "<path d='M0 68h6v14H0zM18 68h12v14H18zM36 68h18v14H36z' fill='gold'/>"
-    ∷ codes "<path d='M0 68h18v14H0zM18 68h18v14H18zM36 68h18v14H36z'"
-    ∷ codes " fill='none' stroke='black'/>"
-    ∷ codes "<text x='60' y='79'>a king's turn: keep, mark, king</text>\n"
-    ∷ codes "<path d='M0 88h18v14H0z' fill='none' stroke='black' stroke-dasharray='2'/>"
-    ∷ codes "<text x='24' y='99'>a turn that not all have</text>\n</g>\n" ∷ [])
 
 -- what the bars of the pulses mean
 abbrev pub pulse_legend : (y : ℕ) → List ℕ
@@ -67,7 +41,7 @@ pulse_facts trace = pulse_facts_in trace.frame trace.nodes (length trace.strips.
 abbrev pub legends : Frame → List ℕ
 legends frame =
     colour_legend (bottom frame + 56)
-    ++ (register_legend (bottom frame + 78) ++ pulse_legend (bottom frame + 190))
+    ++ (legend (bottom frame + 78) (codes "have") ++ pulse_legend (bottom frame + 190))
 
 -- ---- the picture
 

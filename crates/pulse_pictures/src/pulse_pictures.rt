@@ -2,7 +2,6 @@
 
 ghost use Rattle.edge_io.specs.Writing.{Writes};
 ghost use Rattle.pulse_pictures.specs.PulsePictures.{pulse_bands, pulse_legend, pulse_picture};
-ghost use Rattle.pulse_pictures.specs.PulsePictures.{register_legend};
 
 use crate::members::{put_headings, put_pulse_notes};
 use crate::pulse_laid::is_pulse_trace_laid;
@@ -14,41 +13,7 @@ use picture_parts::{
     Figure, bottom, picture_width, put_colour_legend, put_front, put_ground, put_number_caption,
     put_span,
 };
-use trace_pictures::{put_dots, put_starts};
-
-/// Writes what the registers and the kings' phases mean.
-fn put_register_legend<K: Sink>(writer: &mut Writer<'_, K>, y: u64)
-    ensures { Writes K.told (register_legend y) writer.old writer.new }
-{
-    writer.pieces(&[
-        Piece::Text(b"<g text-anchor='start' transform='translate(4,"),
-        Piece::Number(y),
-        Piece::Text(
-            b")'>\n<rect width='18' height='18' fill='whitesmoke'/>\
-                <path d='M6 6l6 6m0 -6l-6 6' stroke='dimgray'/>\
-                <text x='24' y='13'>no value</text>\n\
-                <rect x='110' width='18' height='18' fill='#fde9b0'/>\
-                <text x='134' y='13'>unmarked</text>\n\
-                <rect y='22' width='18' height='18' fill='#b5d3f2'/>\
-                <rect y='22' width='18' height='18' fill='url(#marked)'/>\
-                <text x='24' y='35'>marked</text>\n\
-                <rect x='110' y='22' width='18' height='18' fill='#a6dba0'/>\
-                <path d='M112 24h14v14H112z' fill='none' stroke='darkgreen' stroke-width='2'/>\
-                <text x='134' y='35'>locked</text>\n\
-                <rect y='44' width='18' height='18' fill='url(#faulty)'/>\
-                <text x='24' y='57'>faulty</text>\n\
-                <rect x='110' y='44' width='18' height='18' fill='silver'/>\
-                <path d='M110 44h8l-8 8z'/>\
-                <text x='134' y='57'>hit by an era's start</text>\n\
-                <path d='M0 68h6v14H0zM18 68h12v14H18zM36 68h18v14H36z' fill='gold'/>\
-                <path d='M0 68h18v14H0zM18 68h18v14H18zM36 68h18v14H36z' \
-                fill='none' stroke='black'/>\
-                <text x='60' y='79'>a king's turn: keep, mark, king</text>\n\
-                <path d='M0 88h18v14H0z' fill='none' stroke='black' stroke-dasharray='2'/>\
-                <text x='24' y='99'>a turn that not all have</text>\n</g>\n",
-        ),
-    ]);
-}
+use trace_pictures::{put_dots, put_legend, put_starts};
 
 /// Writes what the bars of the pulses mean.
 fn put_pulse_legend<K: Sink>(writer: &mut Writer<'_, K>, y: u64)
@@ -116,7 +81,7 @@ impl Figure for PulseTrace {
         put_number_caption(writer, bottom + 28, b"nodes", u64::from(self.nodes));
         put_number_caption(writer, bottom + 44, b"groups", groups);
         put_colour_legend(writer, bottom + 56);
-        put_register_legend(writer, bottom + 78);
+        put_legend(writer, bottom + 78, b"have");
         put_pulse_legend(writer, bottom + 190);
         writer.text(b"</svg>\n");
     }

@@ -38,9 +38,10 @@ level_at y level = level_front y level.level ++ blocks_words level.blocks
 abbrev pub level_caption : Frame → Level → List ℕ
 level_caption frame level = level_at (bottom frame + 44 + 16 * level.place) level
 
--- what the cells mean, from that height on
-abbrev pub legend : (y : ℕ) → List ℕ
-legend y = concat (
+-- what the registers and the kings' phases mean, from that height on, with how nodes get a phase:
+-- they hear it, or have it
+abbrev pub legend : (y : ℕ) → (verb : List ℕ) → List ℕ
+legend y verb = concat (
     codes "<g text-anchor='start' transform='translate(4," ∷ decimal y
     ∷ codes ")'>\n<rect width='18' height='18' fill='whitesmoke'/>"
     ∷ codes "<path d='M6 6l6 6m0 -6l-6 6' stroke='dimgray'/><text x='24' y='13'>no value</text>\n"
@@ -62,7 +63,7 @@ legend y = concat (
     ∷ codes " fill='none' stroke='black'/>"
     ∷ codes "<text x='60' y='79'>a king's turn: keep, mark, king</text>\n"
     ∷ codes "<path d='M0 88h18v14H0z' fill='none' stroke='black' stroke-dasharray='2'/>"
-    ∷ codes "<text x='24' y='99'>a turn that not all hear</text>\n</g>\n" ∷ [])
+    ∷ codes "<text x='24' y='99'>a turn that not all " ∷ verb ∷ codes "</text>\n</g>\n" ∷ [])
 
 -- what the picture is of: configurations and nodes
 abbrev pub trace_facts : Trace → List ℕ
@@ -80,7 +81,7 @@ trace_front trace =
 abbrev pub legend_below : Frame → (levels : ℕ) → List ℕ
 legend_below frame levels =
     colour_legend (bottom frame + 40 + 16 * levels)
-    ++ legend (bottom frame + 62 + 16 * levels)
+    ++ legend (bottom frame + 62 + 16 * levels) (codes "hear")
 
 -- the captions of the levels, and what the cells mean
 abbrev pub trace_captions : Trace → List ℕ

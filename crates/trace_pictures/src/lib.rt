@@ -27,7 +27,7 @@ pub use hits::add_era;
 pub use strips::{face_in, put_register_in};
 pub use trace_laid::{has_id, ids_rise};
 pub use trace_lines::{Front, Reader, TraceFault};
-pub use trace_pictures::{put_dots, put_starts};
+pub use trace_pictures::{put_dots, put_legend, put_starts};
 pub use trace_printing::{faulty_word, held_word, put_number_or_none, put_output, turn_word};
 pub use trace_reading::{MOST_NODES, is_trace, length_of};
 pub use traces::{Held, Output, Trace, Turn};

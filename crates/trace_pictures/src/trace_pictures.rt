@@ -75,9 +75,10 @@ fn put_levels<K: Sink>(writer: &mut Writer<'_, K>, frame: Frame, levels: &[Level
     }
 }
 
-/// Writes what the cells mean.
-fn put_legend<K: Sink>(writer: &mut Writer<'_, K>, y: u64)
-    ensures { Writes K.told (legend y) writer.old writer.new }
+/// Writes what the registers and the kings' phases mean, with how nodes get a phase: they hear it,
+/// or have it.
+pub fn put_legend<K: Sink>(writer: &mut Writer<'_, K>, y: u64, verb: &[u8])
+    ensures { Writes K.told (legend y verb.now) writer.old writer.new }
 {
     writer.pieces(&[
         Piece::Text(b"<g text-anchor='start' transform='translate(4,"),
@@ -104,8 +105,10 @@ fn put_legend<K: Sink>(writer: &mut Writer<'_, K>, y: u64)
                 fill='none' stroke='black'/>\
                 <text x='60' y='79'>a king's turn: keep, mark, king</text>\n\
                 <path d='M0 88h18v14H0z' fill='none' stroke='black' stroke-dasharray='2'/>\
-                <text x='24' y='99'>a turn that not all hear</text>\n</g>\n",
+                <text x='24' y='99'>a turn that not all ",
         ),
+        Piece::Text(verb),
+        Piece::Text(b"</text>\n</g>\n"),
     ]);
 }
 
@@ -116,7 +119,7 @@ fn put_legend_below<K: Sink>(writer: &mut Writer<'_, K>, frame: Frame, levels: &
 {
     let lines = 16 * levels.len() as u64;
     put_colour_legend(writer, bottom(frame) + 40 + lines);
-    put_legend(writer, bottom(frame) + 62 + lines);
+    put_legend(writer, bottom(frame) + 62 + lines, b"hear");
 }
 
 /// Draws all that is within the bands.

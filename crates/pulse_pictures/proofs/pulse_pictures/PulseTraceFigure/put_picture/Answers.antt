@@ -14,6 +14,6 @@ returns g c =
     (rw (bottom, c.groups.ensures) at c.put_number_caption-2.ensures)))
     (writes_then
     (writes_then (rw bottom at c.put_colour_legend.ensures)
-    (writes_then (rw bottom at c.put_register_legend.ensures)
+    (writes_then (rw bottom at c.put_legend.ensures)
     (rw bottom at c.put_pulse_legend.ensures)))
     c.text.ensures)))))
