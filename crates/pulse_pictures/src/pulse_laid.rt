@@ -171,12 +171,7 @@ fn has_stand(stands: &[GroupInstruction], note: PulseNote) -> bool
 fn have_stands(stands: &[GroupInstruction], notes: &[PulseNote]) -> bool
     ensures { result ≡ true → All (HasStand stands.now) notes.now }
 {
-    for k in 0..notes.len() {
-        if !has_stand(stands, notes[k]) {
-            return false;
-        }
-    }
-    true
+    notes.iter().all(|note| has_stand(stands, *note))
 }
 
 /// Whether a phase stands above the cells of its group.
@@ -195,12 +190,7 @@ fn is_stand_laid(strips: &[Strip], stand: GroupInstruction) -> bool
 fn are_stands_laid(strips: &[Strip], stands: &[GroupInstruction]) -> bool
     ensures { result ≡ true → All (IsStandLaid strips.now) stands.now }
 {
-    for k in 0..stands.len() {
-        if !is_stand_laid(strips, stands[k]) {
-            return false;
-        }
-    }
-    true
+    stands.iter().all(|stand| is_stand_laid(strips, *stand))
 }
 
 /// Whether a phase stands above a later one, if both are of one column and group.
@@ -263,12 +253,9 @@ fn is_heading_laid(strips: &[Strip], heading: Heading) -> bool
 fn are_headings_laid(strips: &[Strip], headings: &[Heading]) -> bool
     ensures { result ≡ true → All (IsHeadingLaid strips.now) headings.now }
 {
-    for k in 0..headings.len() {
-        if !is_heading_laid(strips, headings[k]) {
-            return false;
-        }
-    }
-    true
+    headings
+        .iter()
+        .all(|heading| is_heading_laid(strips, *heading))
 }
 
 /// Whether the strip of a group comes after that of this one.

@@ -24,26 +24,16 @@ fn output_told(note: PulseNote) -> Option<u64>
 fn are_below(modulus: u64, notes: &[PulseNote]) -> bool
     ensures { result ≡ true → All (λ note. IsBelow modulus (output_told note)) notes.now }
 {
-    for k in 0..notes.len() {
-        if !is_below(modulus, output_told(notes[k])) {
-            return false;
-        }
-    }
-    true
+    notes
+        .iter()
+        .all(|note| is_below(modulus, output_told(*note)))
 }
 
 /// Whether an output is shown.
 fn has_output(notes: &[PulseNote], wanted: u64) -> bool
     ensures { result ≡ true → HasOutput output_told notes.now wanted }
 {
-    for k in 0..notes.len() {
-        if let Some(output) = output_told(notes[k]) {
-            if output == wanted {
-                return true;
-            }
-        }
-    }
-    false
+    notes.iter().any(|note| output_told(*note) == Some(wanted))
 }
 
 /// Whether a number is the least one above all outputs.
@@ -107,24 +97,16 @@ fn is_on(first: u32, last: u32, told: Told) -> bool
 fn is_strip_said(notes: &[PulseNote], strip: Strip) -> bool
     ensures { result ≡ true → IsStripSaid notes.now strip }
 {
-    for k in 0..notes.len() {
-        if is_on(strip.first, strip.last, notes[k].told) {
-            return true;
-        }
-    }
-    false
+    notes
+        .iter()
+        .any(|note| is_on(strip.first, strip.last, note.told))
 }
 
 /// Whether this holds of all strips.
 fn are_strips_said(notes: &[PulseNote], strips: &[Strip]) -> bool
     ensures { result ≡ true → All (IsStripSaid notes.now) strips.now }
 {
-    for k in 0..strips.len() {
-        if !is_strip_said(notes, strips[k]) {
-            return false;
-        }
-    }
-    true
+    strips.iter().all(|strip| is_strip_said(notes, *strip))
 }
 
 /// Whether the lines of a trace say what is drawn of it.

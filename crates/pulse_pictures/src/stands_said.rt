@@ -164,16 +164,18 @@ fn is_framed(stand: GroupInstruction, notes: &[PulseNote], is_common: bool) -> b
     }
 }
 
-/// Whether some correct node has each phase, and all phases have their frames, if columns rise.
+/// Whether some correct node has a phase, and the phase has its frame, if columns rise.
+fn is_stand_said(notes: &[PulseNote], stand: GroupInstruction) -> bool
+    requires { ColumnsRise notes.now }
+    ensures { result ≡ true → IsStandSaid notes.now stand }
+{
+    has_stander(stand, notes, true) && is_framed(stand, notes, stand.is_common)
+}
+
+/// Whether this holds of all phases, if columns rise.
 pub fn are_stands_said(notes: &[PulseNote], stands: &[GroupInstruction]) -> bool
     requires { ColumnsRise notes.now }
     ensures { result ≡ true → All (IsStandSaid notes.now) stands.now }
 {
-    for k in 0..stands.len() {
-        let stand = stands[k];
-        if !has_stander(stand, notes, true) || !is_framed(stand, notes, stand.is_common) {
-            return false;
-        }
-    }
-    true
+    stands.iter().all(|stand| is_stand_said(notes, *stand))
 }

@@ -1,6 +1,0 @@
-use Rattle.std.proofs.Common.{take, All}
-use Rattle.pulse_pictures.specs.PulseLaid.{IsHeadingLaid}
-use Rattle.pulse_pictures.proofs.pulse_laid.are_headings_laid.Given as goal
-
-abbrev pub invariant-loop-k : goal.invariant-loop-k
-invariant-loop-k l = All (IsHeadingLaid l.strips) (take l.k l.headings)
