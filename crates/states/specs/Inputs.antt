@@ -23,13 +23,13 @@ abbrev pub values_read : Result Layer NotValues → Result Layer StateReason
 values_read (Ok layer) = Ok layer
 values_read (Err refused) = Err (reason.Values refused)
 
--- the layer that these lines say, of which the first has that number
-abbrev pub layer_from : (first : ℕ) → List (List ℕ) → Result Layer StateReason
-layer_from first lines = values_read (layer_behind no_layer (numbered first lines))
+-- the layer that these numbered lines say
+abbrev pub layer_from : (lines : List (ℕ × List ℕ)) → Result Layer StateReason
+layer_from lines = values_read (layer_behind no_layer lines)
 
 -- the layer that the lines after a plan say
 abbrev pub layer_after : Found Plan → Result Layer StateReason
-layer_after found = layer_from (1 + found.taken) found.behind
+layer_after found = layer_from (numbered (1 + found.taken) found.behind)
 
 abbrev pub layer_of : (input : List ℕ) → Result Layer StateReason
 layer_of input = and_then (plan_read (plan_of input)) layer_after

@@ -1,8 +1,6 @@
 //! Reads an input, and writes the other forms of its states.
 
-ghost use Rattle.std.specs.Prelude.{◌≡◌, ◌≤◌, ◌^◌, ◌+◌, Ok, length, IfErr, IfOk, IsErrOf, OnOk};
-ghost use Rattle.texts.specs.Lines.{lines_of};
-ghost use Rattle.texts.specs.Limits.{longest_input};
+ghost use Rattle.std.specs.Prelude.{◌≡◌, ◌≤◌, Ok, length, IfErr, IfOk, IsErrOf, OnOk};
 ghost use Rattle.plan_reader.specs.PlanPart.{found_in, plan_of};
 ghost use Rattle.program_words.specs.Conduct.{FailsAs};
 ghost use Rattle.states.specs.Conduct.{FailsToTurn, IsOfLine, IsShaped, Turns, TurnsInput};
@@ -21,22 +19,18 @@ use state_codec::StateShape;
 use std::alloc::Global;
 use texts::LONGEST_INPUT;
 
-/// Turns the lines after a plan, from the line of this number on. So many of those that count
-/// stand before the first state.
+/// Turns the lines after a plan. So many of those that count stand before the first state.
 fn turn_lines(
     alloc: Global,
     shape: &StateShape,
-    text: &[u8],
-    first: u64,
+    lines: Lines<'_>,
     before: usize,
 ) -> Result<String, StateError>
-    requires first { first ≤ 2 ^ 32 }
-    requires length { length text.now ≤ 2 ^ 32 }
     ensures { IfErr result IsOfLine }
 {
     let mut out = String::new(alloc);
     let mut left = before;
-    for (number, line) in Lines::new(text, first) {
+    for (number, line) in lines {
         if is_skipped(line) {
             continue;
         }
@@ -70,14 +64,12 @@ fn read_front(alloc: Global, input: &[u8]) -> Result<(Plan, usize, u64), StateEr
 }
 
 /// The layer that the lines of values after a plan say.
-fn read_values(text: &[u8], first: u64) -> Result<Layer, StateError>
-    requires first { first ≤ 2 ^ 32 }
-    requires length { length text.now ≤ 2 ^ 32 }
-    ensures read { IfOk result (λ layer. layer_from first (lines_of text.now) ≡ Ok layer) }
+fn read_values(lines: Lines<'_>) -> Result<Layer, StateError>
+    ensures read { IfOk result (λ layer. layer_from lines.entry ≡ Ok layer) }
     ensures range { IfOk result IsLayer }
-    ensures fails { IfErr result (FailsAs (layer_from first (lines_of text.now))) }
+    ensures fails { IfErr result (FailsAs (layer_from lines.entry)) }
 {
-    match read_layer(text, first) {
+    match read_layer(lines) {
         Ok(layer) => Ok(layer),
         Err(refused) => Err(ProgramError::Refused(StateReason::Values(refused))),
     }
@@ -85,20 +77,19 @@ fn read_values(text: &[u8], first: u64) -> Result<Layer, StateError>
 
 /// The other forms of all states of an input.
 pub fn turned(alloc: Global, input: &[u8]) -> Result<String, StateError>
-    requires { length input.now ≤ longest_input }
     ensures shaped { OnOk result (IsShaped (layer_of input.now)) }
     ensures fails { IfErr result (FailsToTurn (layer_of input.now)) }
 {
     let (plan, taken, lines) = read_front(alloc, input)?;
     let text = &input[taken..];
-    let layer = read_values(text, 1 + lines)?;
+    let layer = read_values(Lines::new(text, 1 + lines))?;
     let shape = StateShape::with_registers(alloc, &plan, layer.values, layer.registers)?;
-    turn_lines(alloc, &shape, text, 1 + lines, layer.registers)
+    let lines = Lines::new(text, 1 + lines);
+    turn_lines(alloc, &shape, lines, layer.registers)
 }
 
 /// Writes the other forms of all states of an input.
 fn turn_text<K: Sink>(alloc: Global, input: &[u8], sink: &mut K) -> Result<(), StateError>
-    requires { length input.now ≤ longest_input }
     ensures { Turns (layer_of input.now) result (K.told sink.old) (K.told sink.new) }
 {
     let text = turned(alloc, input)?;

@@ -1,8 +1,6 @@
 //! Reads how many registers of a layer stand after those of the plan, and of how many values.
 
-ghost use Rattle.std.specs.Prelude.{◌≡◌, ◌≤◌, ◌^◌, length, IfOk, IfSome};
-ghost use Rattle.texts.specs.Lines.{lines_of};
-ghost use Rattle.edge_io.specs.Items.{numbered};
+ghost use Rattle.std.specs.Prelude.{◌≡◌, IfOk, IfSome};
 ghost use Rattle.states.specs.Values.{
   values_said,
   with_one_more,
@@ -77,20 +75,18 @@ fn with_one_more(layer: Layer, line: &[u8]) -> Option<Layer>
     })
 }
 
-/// The layer that the lines `values V` at the beginning of a text say, whose first line has that
-/// number. Each of them says a register; skipped lines may stand among them. The error comes
-/// exactly if one of them says none, and names the first such line.
-pub fn read_layer(text: &[u8], first: u64) -> Result<Layer, NotValues>
-    requires first { first ≤ 2 ^ 32 }
-    requires length { length text.now ≤ 2 ^ 32 }
-    ensures value { result ≡ layer_behind no_layer (numbered first (lines_of text.now)) }
+/// The layer that the lines `values V` at the beginning of these lines say. Each of them says a
+/// register; skipped lines may stand among them. The error comes exactly if one of them says none,
+/// and names the first such line.
+pub fn read_layer(lines: Lines<'_>) -> Result<Layer, NotValues>
+    ensures value { result ≡ layer_behind no_layer lines.entry }
     ensures range { IfOk result IsLayer }
 {
     let mut layer = Layer {
         registers: 0,
         values: LEAST_VALUES,
     };
-    for (number, line) in Lines::new(text, first) {
+    for (number, line) in lines {
         if !is_skipped(line) {
             if !is_of_values(line) {
                 return Ok(layer);

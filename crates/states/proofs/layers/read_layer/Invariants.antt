@@ -1,11 +1,8 @@
 use Rattle.std.proofs.Common.{◌≡◌}
-use Rattle.texts.specs.Lines.{lines_of}
-use Rattle.edge_io.specs.Items.{numbered}
 use Rattle.states.specs.Values.{IsLayer, no_layer, layer_behind}
 use Rattle.states.proofs.layers.read_layer.Given as goal
 
 abbrev pub invariant-loop-number : goal.invariant-loop-number
 invariant-loop-number l =
     IsLayer l.layer
-    × (layer_behind l.layer l.number-iterator
-    ≡ layer_behind no_layer (numbered l.first (lines_of l.text)))
+    × (layer_behind l.layer l.number-iterator ≡ layer_behind no_layer l.fn.lines)
