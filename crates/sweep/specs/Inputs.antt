@@ -15,7 +15,7 @@ use Rattle.pulse_runs.specs.RunInputs as pulses
 use Rattle.pulse_runs.specs.declared.errors.RunRefusal.{RunRefusal}
 use Rattle.sweep.specs.Sweeps.{Swept, on_plan, on_machine}
 use Rattle.sweep.specs.SweepTexts.{sweep_text}
-use Rattle.sweep.specs.declared.requests.Numbers.{Numbers}
+use Rattle.sweep.specs.NumberRanges.{NumberRange}
 use Rattle.sweep.specs.declared.reasons.SweepReason.{SweepReason}
 use Rattle.sweep.specs.declared.reasons.SweepReason.TheVariants as reason
 
@@ -54,11 +54,11 @@ swept_of input =
     else swept_on_plan (scripted_of input)
 
 -- the text of the sweep of a script on a counter, if the script says noise
-abbrev pub noise_sweep : Numbers → Swept → Result (List ℕ) SweepReason
+abbrev pub noise_sweep : NumberRange → Swept → Result (List ℕ) SweepReason
 noise_sweep numbers swept =
     if says_noise swept.script
     then Ok (sweep_text swept (range_with_len numbers.first numbers.count))
     else Err reason.NoNoise
 
-abbrev pub sweep_of : Numbers → (input : List ℕ) → Result (List ℕ) SweepReason
+abbrev pub sweep_of : NumberRange → (input : List ℕ) → Result (List ℕ) SweepReason
 sweep_of numbers input = and_then (swept_of input) (noise_sweep numbers)

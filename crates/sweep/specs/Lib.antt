@@ -7,4 +7,5 @@ pub mod Conduct
 pub mod HelpText
 pub mod Inputs
 pub mod Reasons
+pub mod NumberRanges
 pub mod Requests

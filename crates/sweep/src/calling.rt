@@ -1,7 +1,6 @@
 //! Reads an input, and writes its sweep.
 
-ghost use Rattle.std.specs.Prelude.{◌≡◌, ◌≤◌, length, IfErr, IfOk, IsErrOf};
-ghost use Rattle.texts.specs.Limits.{longest_input};
+ghost use Rattle.std.specs.Prelude.{◌≡◌, IfErr, IfOk, IsErrOf};
 ghost use Rattle.answers.specs.ScriptedRuns.{IsScriptedRun};
 ghost use Rattle.outcomes.specs.Inputs.{scripted_of};
 ghost use Rattle.program_words.specs.Conduct.{Answers, FailsAs, and_then};
@@ -10,7 +9,6 @@ ghost use Rattle.pulse_runs.specs.RunInputs as pulses;
 ghost use Rattle.sweep.specs.Conduct.{SweepsInput};
 ghost use Rattle.sweep.specs.Inputs.{levels_read, noise_sweep, pulses_read, sweep_of};
 ghost use Rattle.sweep.specs.Inputs.{swept_on_plan, swept_on_pulses};
-ghost use Rattle.sweep.specs.Requests.{AreFew};
 ghost use Rattle.sweep.specs.Progress.{Says};
 
 use crate::inputs::is_pulses;
@@ -42,7 +40,6 @@ fn sweep_noise<R: Sweepable, K: Sink, E: Sink>(
     sink: &mut K,
     progress: &mut Progress<E>,
 ) -> Result<(), SweepError>
-    requires { AreFew numbers }
     ensures sweeps { Answers (noise_sweep numbers (R.swept runner.old)) result
         (K.told sink.old) (K.told sink.new) }
     ensures progress { Says progress.old.name progress.old.is_on numbers.count
@@ -51,12 +48,12 @@ fn sweep_noise<R: Sweepable, K: Sink, E: Sink>(
     if !runner.script().says_noise() {
         return Err(ProgramError::Refused(SweepReason::NoNoise));
     }
-    sweep(alloc, runner, numbers.first, numbers.count, sink, progress)
+    let (first, count) = (numbers.first(), numbers.count());
+    sweep(alloc, runner, first, count, sink, progress)
 }
 
 /// The runner of the script of an input on its plan.
 fn read_levels(alloc: Global, input: &[u8]) -> Result<(Plan, LevelsRunner<NoOverlay>), SweepError>
-    requires { length input.now ≤ longest_input }
     ensures read { IfOk result (IsScriptedRun input.now) }
     ensures fails { IfErr result (FailsAs (levels_read (scripted_of input.now))) }
 {
@@ -79,8 +76,6 @@ fn sweep_on_plan<K: Sink, E: Sink>(
     sink: &mut K,
     progress: &mut Progress<E>,
 ) -> Result<(), SweepError>
-    requires numbers { AreFew numbers }
-    requires short { length input.now ≤ longest_input }
     ensures answers { Answers
         (and_then (swept_on_plan (scripted_of input.now)) (noise_sweep numbers)) result
         (K.told sink.old) (K.told sink.new) }
@@ -118,8 +113,6 @@ fn sweep_on_pulses<K: Sink, E: Sink>(
     sink: &mut K,
     progress: &mut Progress<E>,
 ) -> Result<(), SweepError>
-    requires numbers { AreFew numbers }
-    requires short { length input.now ≤ longest_input }
     ensures answers { Answers
         (and_then (swept_on_pulses (pulses.scripted_of input.now)) (noise_sweep numbers)) result
         (K.told sink.old) (K.told sink.new) }
@@ -131,7 +124,7 @@ fn sweep_on_pulses<K: Sink, E: Sink>(
     sweep_noise(alloc, &mut runner, numbers, sink, progress)
 }
 
-/// Writes the sweep of an input of at most 2^20 bytes.
+/// Writes the sweep of an input.
 fn sweep_text<K: Sink, E: Sink>(
     alloc: Global,
     numbers: Numbers,
@@ -139,8 +132,6 @@ fn sweep_text<K: Sink, E: Sink>(
     sink: &mut K,
     progress: &mut Progress<E>,
 ) -> Result<(), SweepError>
-    requires numbers { AreFew numbers }
-    requires short { length input.now ≤ longest_input }
     ensures answers { Answers (sweep_of numbers input.now) result
         (K.told sink.old) (K.told sink.new) }
     ensures progress { Says progress.old.name progress.old.is_on numbers.count
@@ -172,7 +163,6 @@ pub fn sweep_input<S: Source, K: Sink, E: Sink>(
     sink: &mut K,
     progress: &mut Progress<E>,
 ) -> Result<(), SweepError>
-    requires { AreFew numbers }
     ensures sweeps { SweepsInput result numbers
         (S.left source.old) (S.left source.new) (S.faults source.old) (S.faults source.new)
         (K.told sink.old) (K.told sink.new) }

@@ -16,4 +16,7 @@ returns-clause-sweeps g c =
     answers_text _ _ text _ _
     (ap (λ (says : Bool). let r : Result (List ℕ) SweepReason =
     if says then Ok text else Err reason.NoNoise in r) noise)
-    c.sweep.ensures.text
+    (rw c.first-first.ensures at (rw c.count-count.ensures.value at c.sweep.ensures.text))
+
+pub returns-clause-progress : goal.returns-clause-progress
+returns-clause-progress g c = rw c.count-count.ensures.value at c.sweep.ensures.progress
