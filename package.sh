@@ -34,6 +34,7 @@ for program in "$room/$name"/bin/*; do
     mkdir -p "$room/$name/crates/$crate/out"
     ln -s "../../../bin/$(basename "$program")" "$room/$name/crates/$crate/out/$crate"
     [ ! -s "crates/$crate/stdin" ] || cp "crates/$crate/stdin" "$room/$name/crates/$crate"
+    [ ! -d "crates/$crate/data" ] || cp -r "crates/$crate/data" "$room/$name/crates/$crate"
 done
 find "$room/$name" -name __pycache__ -prune -exec rm -rf {} +
 (cd "$room/$name" && find . -type f ! -name SHA256SUMS | LC_ALL=C sort |
