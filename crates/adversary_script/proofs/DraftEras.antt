@@ -13,7 +13,7 @@ use Rattle.state_codec.specs.Ranges.{InRange}
 use Rattle.adversary_script.specs.declared.lies.Start.{Start}
 use Rattle.adversary_script.specs.declared.parts.Era as kept
 use Rattle.adversary_script.specs.declared.parts.Parts.{Parts}
-use Rattle.adversary_script.specs.Scripts.{Era, Script, IsFormed, empty_script}
+use Rattle.adversary_script.specs.Scripts.{AreInRange, Era, Script, IsFormed, empty_script}
 use Rattle.adversary_script.specs.Seen.{era_seen, script_seen, faulty_or_none, IsOver}
 use Rattle.adversary_script.specs.FaultySteps.{last_era, last_first}
 use Rattle.adversary_script.specs.StartSteps.{started}
@@ -95,6 +95,29 @@ module _ (s : Script) (f : IsFormed s) (eras : List kept.Era) (seen : s.eras ≡
         let same : map era_seen (set eras (length eras - 1) new) ≡ map era_seen eras =
         map-set_same era_seen eras (length eras - 1) new era (is ∙ ap era_seen at) in
         subst (λ eras. IsFormed (with_eras s eras)) (seen ∙ sym same) f
+
+-- one more start in era 0, if there was memory
+pub first_started : (s : Script) (start : Start) (ok : Bool) (new : List Start) → IsFormed s
+    → new ≡ (if ok then s.starts ++ start ∷ [] else s.starts)
+    → InRange (fields_at s.shape start.node) start.state
+    → IsFormed (record s { starts = new })
+first_started s start ok new f is range = record {
+  ids = f.ids;
+  senders = f.senders;
+  lies = f.lies;
+  starts = subst (AreInRange s.shape) (sym is) (by ok);
+  hits = f.hits;
+  many = f.many;
+  rising = f.rising;
+  few = f.few;
+  order = f.order;
+  shown = f.shown;
+} where
+  by : (ok : Bool) → AreInRange s.shape (if ok then s.starts ++ start ∷ [] else s.starts)
+  by true =
+      All-push (λ (start : Start). InRange (fields_at s.shape start.node) start.state) s.starts
+      start f.starts range
+  by false = f.starts
 
 -- the further eras stay sets of as many nodes
 pub pushed_over : (nodes : ℕ) (ok : Bool) (era : kept.Era) (eras new : List kept.Era)

@@ -1,4 +1,4 @@
-pub mod Mapped
+pub mod Positions
 pub mod RisingIds
 pub mod Taken
 pub mod WordBytes

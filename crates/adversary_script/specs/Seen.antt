@@ -1,15 +1,14 @@
 -- What the parts that the code keeps of a script stand for.
-use Rattle.std.specs.Prelude.{◌≡◌, ℕ, [], map, Vec, Option, Some, None, All, IfSome}
-use Rattle.std.specs.Global.{Global}
+use Rattle.std.specs.Prelude.{◌≡◌, ℕ, [], map, Option, Some, None, All, IfSome}
 use Rattle.sync_types.specs.FaultSets.{FaultIds}
 use Rattle.state_codec.specs.Shapes.{Shape}
 use Rattle.adversary_script.specs.declared.parts.Era as kept
+use Rattle.adversary_script.specs.declared.parts.Group as named
 use Rattle.adversary_script.specs.declared.parts.Parts.{Parts}
 use Rattle.adversary_script.specs.Scripts.{Group, Era, Script}
 
--- an entry of the map of groups
-abbrev pub group_seen : Vec ℕ Global × FaultIds → Group
-group_seen entry = record { name = entry.0.items; ids = entry.1.ids }
+abbrev pub group_seen : named.Group → Group
+group_seen group = record { name = group.name.items; ids = group.ids.ids }
 
 abbrev pub era_seen : kept.Era → Era
 era_seen era = record { first = era.first; faulty = era.faulty.ids; starts = era.starts.items }
@@ -25,7 +24,7 @@ script_seen shape faulty parts = record {
   common = parts.common;
   starts = parts.starts.items;
   eras = map era_seen parts.eras.items;
-  groups = map group_seen parts.groups.entries;
+  groups = map group_seen parts.groups.items;
   lies = parts.lies.items;
   rounds = parts.rounds;
   first = parts.first;

@@ -14,8 +14,8 @@ impl Script {
     fn is_member(&self, group: usize, v: u32) -> bool
         ensures { result ≡ in_group (slice_get self.now.groups group) v }
     {
-        match self.parts.groups.get_index(group) {
-            Some((_, ids)) => ids.contains(v),
+        match self.parts.groups.get(group) {
+            Some(group) => group.ids.contains(v),
             None => false,
         }
     }

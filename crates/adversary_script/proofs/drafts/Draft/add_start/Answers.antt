@@ -6,8 +6,18 @@ use Rattle.adversary_script.specs.declared.parts.Era as kept
 use Rattle.adversary_script.specs.Scripts.{Script}
 use Rattle.adversary_script.specs.FaultySteps.{last_era}
 use Rattle.adversary_script.specs.StartSteps.{started}
-use Rattle.adversary_script.proofs.DraftEras.{with_start_seen, started_formed, if_ok}
+use Rattle.adversary_script.proofs.DraftEras.{with_start_seen, started_formed, first_started, if_ok}
 use Rattle.adversary_script.proofs.drafts.Draft.add_start.Goals as goal
+
+pub invariant_of-self : goal.invariant_of-self
+invariant_of-self c = (
+  first_started _ c.args.start (is_ok c.push.result) _ c.self.invariant.0 c.push.ensures.items
+      (rw (← c.self.view_is) at c.requires),
+  record {
+    first = c.self.invariant.1.first;
+    further = c.self.invariant.1.further;
+  },
+)
 
 pub invariant_of-self-2 : goal.invariant_of-self-2
 invariant_of-self-2 c =
