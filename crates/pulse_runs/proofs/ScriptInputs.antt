@@ -17,6 +17,10 @@ use Rattle.slot_table.specs.SlotTexts.{slots_text, TableTextIsRead}
 use Rattle.slot_table.proofs.FitLines.{tables_fit}
 use Rattle.consensus_layer.specs.AgreeTexts.{agree_text, AgreeTextIsReadOver}
 use Rattle.consensus_layer.proofs.FitInputs.{inputs_fit_over}
+use Rattle.firing.specs.RequestTexts.{requests_text, RequestTextIsReadOver}
+use Rattle.firing.proofs.FitRequests.{requests_are_said}
+use Rattle.replicated_log.specs.LogTexts.{log_text, LogTextIsReadOver}
+use Rattle.replicated_log.proofs.FitLogs.{log_is_said}
 use Rattle.pulse_plan.specs.Plans.{PulseNumbers, IsAccepted}
 use Rattle.pulse_texts.specs.PulsesPart.{pulses_of}
 use Rattle.pulse_texts.specs.PulsesTexts.{PulsesTextIsRead}
@@ -31,10 +35,13 @@ use Rattle.pulse_runs.specs.RunInputs.{Layered, with_said, behind_part, layered_
 use Rattle.pulse_runs.specs.RunInputs.{layered_of}
 use Rattle.pulse_runs.specs.LayerInputs.{slots_part, slots_shape, slotted_of}
 use Rattle.pulse_runs.specs.LayerInputs.{numbers_of, agree_part, agree_shape, agreed_of}
+use Rattle.pulse_runs.specs.LayerInputs.{fire_part, fire_shape, firing_of}
+use Rattle.pulse_runs.specs.LayerInputs.{log_part, log_shape, logging_of}
 use Rattle.pulse_runs.specs.LayerShapes.{shape_with}
 use Rattle.pulse_runs.specs.LayerReadings.{FitsAgreed}
 use Rattle.pulse_runs.specs.ScriptInputs.{scripted_text, layered_text, LayeredAreRead}
-use Rattle.pulse_runs.specs.ScriptInputs.{FitsTable, ScriptInputsAreRead}
+use Rattle.pulse_runs.specs.ScriptInputs.{FitsTable, RequestsAreWritable, LogIsWritable}
+use Rattle.pulse_runs.specs.ScriptInputs.{ScriptInputsAreRead}
 use Rattle.pulse_runs.proofs.ReadParts.{then_holds}
 use Rattle.pulse_runs.proofs.ReadLayers.{are_numbers}
 use Rattle.pulse_runs.proofs.LayerShaped as shaped_with
@@ -185,10 +192,34 @@ module _ (fronts : PulsesTextIsRead) (whole : ScriptTextIsWhole) where
         (λ plan accepted said for.
         more_has plan accepted said.values 1 for.two for.few (omega arith))
 
-    pub script_inputs_read : TableTextIsRead → AgreeTextIsReadOver → ScriptInputsAreRead
-    script_inputs_read tables inputs = record {
+    fired_are_read : RequestTextIsReadOver
+        → LayeredAreRead firing_of requests_text fire_shape RequestsAreWritable
+    fired_are_read texts =
+        layered_are_read part.Fire fire_part fire_shape RequestsAreWritable requests_text
+        (λ requests. length requests + 2)
+        (λ plan accepted requests can.
+        texts (numbers_of plan) (are_numbers plan accepted) requests can.0 can.1)
+        (λ plan accepted. requests_are_said (numbers_of plan))
+        (λ plan accepted requests can.
+        more_has plan accepted 2 1 (omega arith) (omega arith) (omega arith))
+
+    logged_are_read : LogTextIsReadOver → LayeredAreRead logging_of log_text log_shape LogIsWritable
+    logged_are_read texts =
+        layered_are_read part.Log log_part log_shape LogIsWritable log_text
+        (λ said. 3 + (length said.commands + 1))
+        (λ plan accepted said can.
+        texts (numbers_of plan) (are_numbers plan accepted) said can.0 can.1)
+        (λ plan accepted. log_is_said (numbers_of plan))
+        (λ plan accepted said can.
+        more_has plan accepted said.values 2 can.0.two can.0.few (omega arith))
+
+    pub script_inputs_read : TableTextIsRead → AgreeTextIsReadOver → RequestTextIsReadOver
+        → LogTextIsReadOver → ScriptInputsAreRead
+    script_inputs_read tables inputs requests logs = record {
       run = run_read;
       others = run_again;
       slots = slots_are_read tables;
       consensus = agreed_are_read inputs;
+      fire = fired_are_read requests;
+      log = logged_are_read logs;
     }

@@ -1,5 +1,5 @@
 -- Inputs with a script, as texts of their parts, are read as what these say.
-use Rattle.std.specs.Prelude.{◌≡◌, ℕ, List, ◌++◌, Result, Ok, IfOk}
+use Rattle.std.specs.Prelude.{◌≡◌, ℕ, ◌≤◌, List, ◌++◌, length, All, Result, Ok, IfOk}
 use Rattle.state_codec.specs.Shapes.{Shape}
 use Rattle.adversary_script.specs.Scripts.{Script}
 use Rattle.adversary_script.specs.ScriptTexts.{script_text}
@@ -8,13 +8,18 @@ use Rattle.slot_table.specs.declared.lines.SlotLine.{SlotLine}
 use Rattle.slot_table.specs.SlotPart.{IsTable}
 use Rattle.slot_table.specs.SlotTexts.{slots_text}
 use Rattle.consensus_layer.specs.AgreeTexts.{agree_text}
+use Rattle.firing.specs.declared.requests.Request.{Request}
+use Rattle.firing.specs.RequestTexts.{requests_text, HasRounds}
+use Rattle.replicated_log.specs.LogContent.{LogContent}
+use Rattle.replicated_log.specs.LogTexts.{log_text}
 use Rattle.pulse_plan.specs.Plans.{PulseNumbers, IsAccepted}
 use Rattle.pulse_texts.specs.PulsesTexts.{pulses_text}
 use Rattle.pulse_texts.specs.PulseShapes.{shape_of}
 use Rattle.pulse_runs.specs.declared.errors.RunRefusal.{RunRefusal}
 use Rattle.pulse_runs.specs.RunInputs.{scripted_of, Layered}
 use Rattle.pulse_runs.specs.LayerInputs.{slots_shape, slotted_of, agree_shape, agreed_of}
-use Rattle.pulse_runs.specs.LayerReadings.{FitsAgreed}
+use Rattle.pulse_runs.specs.LayerInputs.{fire_shape, firing_of, log_shape, logging_of}
+use Rattle.pulse_runs.specs.LayerReadings.{FitsAgreed, FitsRequests, FitsLog}
 
 -- a plan and a script
 abbrev pub scripted_text : PulseNumbers → Script → List ℕ
@@ -45,7 +50,16 @@ pub record LayeredAreRead {Content : Type 0}
 abbrev pub FitsTable : PulseNumbers → List SlotLine → Type 0
 FitsTable plan table = IsTable plan.nodes plan.modulus table
 
--- So it is of a plan and a script, and with a slot table or inputs to agree on between them.
+-- the requests are for the plan's counter, each of rounds that a line can say
+abbrev pub RequestsAreWritable : PulseNumbers → List Request → Type 0
+RequestsAreWritable plan requests = FitsRequests plan requests × All HasRounds requests
+
+-- the log is for the plan's counter, with as few commands of each node as a line can say
+abbrev pub LogIsWritable : PulseNumbers → LogContent → Type 0
+LogIsWritable plan said = FitsLog plan said × All (λ own. length own ≤ 16) said.commands
+
+-- So it is of a plan and a script, and with a slot table, inputs to agree on, requests to fire or a
+-- log between them.
 pub record ScriptInputsAreRead : Type 0 where
   pub run : (plan : PulseNumbers) → IsAccepted plan → (script : Script)
       → IsWritableFor plan.nodes plan.faults (shape_of plan) script
@@ -54,3 +68,5 @@ pub record ScriptInputsAreRead : Type 0 where
       (λ read. scripted_of (scripted_text read.plan read.script) ≡ Ok read)
   pub slots : LayeredAreRead slotted_of slots_text slots_shape FitsTable
   pub consensus : LayeredAreRead agreed_of agree_text agree_shape FitsAgreed
+  pub fire : LayeredAreRead firing_of requests_text fire_shape RequestsAreWritable
+  pub log : LayeredAreRead logging_of log_text log_shape LogIsWritable

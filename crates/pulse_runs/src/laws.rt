@@ -8,11 +8,13 @@ ghost use Rattle.pulse_runs.specs.ScriptInputs.{ScriptInputsAreRead};
 
 use adversary_script::laws::{read_scripts_have_texts, script_texts_read_back};
 use consensus_layer::laws::agree_texts_read_back_over;
+use firing::laws::request_texts_read_back_over;
 use machine_runner::laws::{
     eras_are_runs, eras_count, eras_lock, eras_stay_locked, firsts_are_locked, scripts_are_played,
 };
 use machine_runner::line_laws::at_most_one_in_a_line;
 use pulse_texts::pulses_texts_read_back;
+use replicated_log::laws::log_texts_read_back_over;
 use slot_table::laws::{hold_words, one_holder, slot_texts_read_back};
 
 /// An input that is read as a plan and a script is an accepted plan, and a script for the plan's
@@ -50,8 +52,8 @@ pub fn runs_keep_promise()
 }
 
 /// The texts of an accepted plan and of a script for it, one after the other, are read as these,
-/// and so they are with the text of a slot table, or of inputs to agree on, between them. What any
-/// input is read as has such texts.
+/// and so they are with the text of a slot table, of inputs to agree on, of requests to fire or of
+/// a log between them. What any input is read as has such texts.
 pub fn script_inputs_read_back()
     ensures { ScriptInputsAreRead }
 {
@@ -59,5 +61,7 @@ pub fn script_inputs_read_back()
     script_texts_read_back();
     slot_texts_read_back();
     agree_texts_read_back_over();
+    request_texts_read_back_over();
+    log_texts_read_back_over();
     read_scripts_have_texts();
 }

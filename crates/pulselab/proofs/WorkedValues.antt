@@ -7,15 +7,16 @@ use Rattle.state_codec.specs.Bits.{bits, number_of, bytes_of_bits}
 use Rattle.state_codec.specs.Shapes.{registers_bits}
 use Rattle.state_codec.specs.Reading.{registers_from}
 use Rattle.state_codec.specs.Writing.{bits_of_registers}
-use Rattle.adversary_script.specs.Lies.{start_of, lie_of}
+use Rattle.adversary_script.specs.Lies.{start_of, lie_of, fitted_register}
 use Rattle.adversary_script.specs.ScriptPart.{script_for}
 use Rattle.pulselab.specs.Worked.{PlansAreSpelled, RunsAreSpelled, LinesAreRefused, WordsAskFor}
-use Rattle.pulselab.specs.Worked.{SlotsAreSpelled, LayersAreSpelled, NodesAreServed}
-use Rattle.pulselab.specs.Worked.{WorkedValues}
+use Rattle.pulselab.specs.Worked.{SlotsAreSpelled, LayersAreSpelled, FourNodesAreSpelled}
+use Rattle.pulselab.specs.Worked.{NodesAreServed, WorkedValues}
 
 plans_are_spelled : PlansAreSpelled
 unfolding digits width
-plans_are_spelled = record { text = refl; read = refl; skipped = refl; table = refl }
+plans_are_spelled =
+    record { text = refl; read = refl; skipped = refl; table = refl; deep = refl }
 
 runs_are_spelled : RunsAreSpelled
 unfolding
@@ -71,6 +72,12 @@ layers_are_spelled = record {
   lacking = refl;
 }
 
+four_nodes_are_spelled : FourNodesAreSpelled
+unfolding
+    digits width script_for start_of lie_of number_of bits registers_from registers_bits
+    decode_pairs fitted_register
+four_nodes_are_spelled = record { decided = refl; fired = refl; logged = refl }
+
 nodes_are_served : NodesAreServed
 unfolding
     digits width number_of bits bytes_of_bits registers_from registers_bits bits_of_registers
@@ -98,6 +105,7 @@ worked_values = record {
   runs = runs_are_spelled;
   slots = slots_are_spelled;
   layers = layers_are_spelled;
+  fours = four_nodes_are_spelled;
   nodes = nodes_are_served;
   refused = lines_are_refused;
   words = words_ask_for;

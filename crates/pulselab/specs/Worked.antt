@@ -34,8 +34,8 @@ thirteen_text = codes "pulses 1\ngroup 13 4 10\nend\n"
 abbrev pub IsAnsweredBy : (text answer : List ℕ) → Type 0
 IsAnsweredBy text answer = run.text_of (answer_of whole.Plan text) ≡ answer
 
--- A plan has this text, which is read as it; comments and empty lines may stand in it. And a plan
--- has this table.
+-- A plan has this text, which is read as it; comments and empty lines may stand in it. And plans
+-- have these tables, of one level of halves and of three.
 pub record PlansAreSpelled : Type 0 where
   pub text : pulses_text thirteen ≡ thirteen_text
   pub read : whole_pulses_of thirteen_text ≡ Ok thirteen
@@ -46,6 +46,18 @@ pub record PlansAreSpelled : Type 0 where
       ++ codes "group 0 nodes 4 faults 1 modulus 10 left 17 right 6 spares 2\n"
       ++ codes "group 0 nodes 1 faults 0 modulus 17\n"
       ++ codes "group 1 nodes 1 faults 0 modulus 6\nend\n"
+  pub deep : table_text thirteen
+      ≡ codes "table pulses 1\nplan nodes 13 faults 4 modulus 10\n"
+      ++ codes "bound 145 levels 3 bits 59 bytes 8\n"
+      ++ codes "group 0 nodes 13 faults 4 modulus 10 left 44 right 15 spares 2\n"
+      ++ codes "group 0 nodes 4 faults 1 modulus 44 left 17 right 6 spares 2\n"
+      ++ codes "group 0 nodes 1 faults 0 modulus 17\n"
+      ++ codes "group 1 nodes 1 faults 0 modulus 6\n"
+      ++ codes "group 4 nodes 7 faults 2 modulus 15 left 26 right 9 spares 2\n"
+      ++ codes "group 4 nodes 1 faults 0 modulus 26\n"
+      ++ codes "group 5 nodes 4 faults 1 modulus 9 left 17 right 6 spares 2\n"
+      ++ codes "group 5 nodes 1 faults 0 modulus 17\n"
+      ++ codes "group 6 nodes 1 faults 0 modulus 6\nend\n"
 
 -- what the words `run` and `slots` write of a text
 abbrev pub IsRunAs : (text answer : List ℕ) → Type 0
@@ -180,6 +192,30 @@ pub record LayersAreSpelled : Type 0 where
   pub lacking : IsDecidedAs (codes "pulses 1\ngroup 1 0 3\nend\nscript 1\n")
       (codes "refused agree line 4 rule form\n")
 
+-- The lines of slots of four nodes, with skipped lines. Node 3 is faulty, and lies; the others are
+-- locked at first. They decide their common input; they fire, as they requested in the round before
+-- the slot, and then they do not; and they put what node 2 commands, and then one value of node 3.
+pub record FourNodesAreSpelled : Type 0 where
+  pub decided : IsDecidedAs
+      (codes "pulses 1\ngroup 4 1 6\nend\n# on what\nagree 1\nvalues 3\n\ninputs 2 2 2 0\nend\n"
+      ++ codes "script 1\nfaulty 3\nstart zero\nstart node 0 008000\nstart node 1 020000\n"
+      ++ codes "start node 2 100000\nlie 0 47 3 to 0 1 copy 0\nlie 0 47 3 to all shift 2\n"
+      ++ codes "rounds 48\nshow 42 42\nend\n")
+      (codes "bound 41\nslot 42 2 2 2 *\nlocked 0\n")
+  pub fired : IsFiredAs
+      (codes "pulses 1\ngroup 4 1 6\nend\n# when\nfire 1\nrequest 0 41 41\nrequest 1 40 41\n\n"
+      ++ codes "request 2 41 43\nend\nscript 1\nfaulty 3\nstart zero\nstart node 0 008000\n"
+      ++ codes "start node 1 020000\nstart node 2 100000\nlie 0 53 3 to 0 1 copy 0\n"
+      ++ codes "lie 0 53 3 to all shift 2\nrounds 54\nshow 42 48\nend\n")
+      (codes "bound 41\nfire 42 1 1 1 *\nfire 48 . . . *\nlocked 0\n")
+  pub logged : IsLoggedAs
+      (codes "pulses 1\ngroup 4 1 28\nend\n# what\nlog 1\nvalues 3\nkeep 2\ncommands 0 1\n"
+      ++ codes "commands 1 1\n\ncommands 2 2\ncommands 3 1 0\nend\nscript 1\nfaulty 3\n"
+      ++ codes "start zero\nstart node 0 00200000\nstart node 1 00800000\n"
+      ++ codes "start node 2 040000\nlie 0 55 3 to 0 1 copy 0\nlie 0 55 3 to all shift 2\n"
+      ++ codes "rounds 56\nshow 42 49\nend\n")
+      (codes "bound 41\nentry 42 owner 2 2 2 2 *\nentry 49 owner 3 1 1 1 *\nlocked 0\n")
+
 -- The first line of a plan that fails, by its number and its premise, each premise; and a line of
 -- the node part of a header.
 pub record LinesAreRefused : Type 0 where
@@ -250,6 +286,7 @@ pub record WorkedValues : Type 0 where
   pub runs : RunsAreSpelled
   pub slots : SlotsAreSpelled
   pub layers : LayersAreSpelled
+  pub fours : FourNodesAreSpelled
   pub nodes : NodesAreServed
   pub refused : LinesAreRefused
   pub words : WordsAskFor

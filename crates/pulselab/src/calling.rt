@@ -79,8 +79,8 @@ pub fn pulselab<S: Source, K: Sink>(
     ensures worked { WorkedValues }
 
     // The texts of a plan that is accepted and of a script for it are read as these, and so they
-    // are with that of a slot table, or of inputs to agree on, between them. There are no other
-    // inputs of `run`, `slots` and `consensus`: what any input is read as, such texts are read as.
+    // are with that of a slot table, of inputs to agree on, of requests to fire or of a log between
+    // them. There are no other inputs: what any input is read as, such texts are read as.
     ensures scripts { ScriptInputsAreRead }
 
     // An input that is read as a plan and a script is an accepted plan, and a script for it. What

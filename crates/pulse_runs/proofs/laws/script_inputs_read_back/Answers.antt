@@ -6,3 +6,4 @@ returns c =
     script_inputs_read c.pulses_texts_read_back.ensures.part
     c.script_texts_read_back.ensures.whole c.read_scripts_have_texts.ensures
     c.slot_texts_read_back.ensures.any c.agree_texts_read_back_over.ensures
+    c.request_texts_read_back_over.ensures c.log_texts_read_back_over.ensures
