@@ -1,0 +1,9 @@
+mod Commas
+mod PutRegisters
+mod SaidInRange
+mod SaidRegisters
+mod SaidStates
+mod StateLines
+mod TurnedBoth
+mod TurnedLines
+mod WrittenRegisters

@@ -1,6 +1,11 @@
 pub mod Conduct
 pub mod HelpText
 pub mod Inputs
+pub mod Laws
+pub mod Puts
 pub mod Reasons
 pub mod Requests
+pub mod StateTexts
+pub mod StateWords
+pub mod Turned
 pub mod Values

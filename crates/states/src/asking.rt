@@ -3,8 +3,10 @@
 ghost use Rattle.std.specs.Prelude.{◌≡◌, map, string_bytes, IsErrOf};
 ghost use Rattle.program_words.specs.Conduct.{LeavesUnread};
 ghost use Rattle.states.specs.Conduct.{DoesAsked, asked_of};
+ghost use Rattle.states.specs.Laws.{EachIsTurned};
 
 use crate::calling::turn_input;
+use crate::laws::lines_are_turned;
 use crate::reasons::StateError;
 use crate::requests::request_of;
 use edge_io::{Sink, Source, put_all};
@@ -29,8 +31,8 @@ pub fn answer<S: Source, K: Sink>(
     source: &mut S,
     sink: &mut K,
 ) -> Result<(), StateError>
-    // What was read and written, by how it ended: of states, some text, or the refusal of the first
-    // line of the plan or of the values that fails, or of a line of a state.
+    // What was read and written, by how it ended: of states, the other line of each, or the refusal
+    // of the first line of the plan, of the values or of the states that fails.
     ensures asked { DoesAsked (map string_bytes words.now) result
         (S.left source.old) (S.left source.new) (S.faults source.old) (S.faults source.new)
         (K.told sink.old) (K.told sink.new) }
@@ -38,7 +40,10 @@ pub fn answer<S: Source, K: Sink>(
     ensures unread { LeavesUnread (asked_of (map string_bytes words.now)) source.old source.new }
     // At `ReadFault` the end of the source was not met.
     ensures unmet { IsErrOf result ProgramError.ReadFault → S.met source.new ≡ S.met source.old }
+    // Each of the two lines of a state is turned into the other one.
+    ensures both { EachIsTurned }
 {
+    lines_are_turned();
     match asked_by(words, request_of(words)) {
         Asked::Help => Ok(put_all(sink, HELP)?),
         Asked::Version => Ok(put_all(sink, b"states 1.0\n")?),

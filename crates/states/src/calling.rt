@@ -1,16 +1,18 @@
-//! Reads an input, and writes the other forms of its states.
+//! Reads an input, and writes the other line of each of its states.
 
-ghost use Rattle.std.specs.Prelude.{◌≡◌, ◌≤◌, Ok, length, IfErr, IfOk, IsErrOf, OnOk};
+ghost use Rattle.std.specs.Prelude.{◌≡◌, ◌≤◌, Ok, length, IfErr, IfOk, IsErrOf};
 ghost use Rattle.plan_reader.specs.PlanPart.{found_in, plan_of};
-ghost use Rattle.program_words.specs.Conduct.{FailsAs};
-ghost use Rattle.states.specs.Conduct.{FailsToTurn, IsOfLine, IsShaped, Turns, TurnsInput};
-ghost use Rattle.states.specs.Inputs.{layer_from, layer_of, plan_read};
+ghost use Rattle.program_words.specs.Conduct.{Answers, FailsAs};
+ghost use Rattle.states.specs.Conduct.{TurnsInput};
+ghost use Rattle.states.specs.Inputs.{layer_from, plan_read, states_text};
+ghost use Rattle.states.specs.Turned.{states_turned};
 ghost use Rattle.states.specs.Values.{IsLayer};
 
 use crate::faults::TurnError;
 use crate::layers::{Layer, read_layer};
 use crate::reasons::{StateError, StateReason};
 use crate::turning::turn;
+use crate::writing::push_text;
 use edge_io::{Lines, Sink, Source, is_skipped, put_all, read_all};
 use plan_numbers::Plan;
 use plan_reader::{PlanError, read_plan};
@@ -25,10 +27,12 @@ fn turn_lines(
     shape: &StateShape,
     lines: Lines<'_>,
     before: usize,
-) -> Result<String, StateError>
-    ensures { IfErr result IsOfLine }
+) -> Result<Vec<u8>, StateError>
+    ensures text { IfOk result
+        (λ text. states_turned shape.now before lines.entry ≡ Ok text.items) }
+    ensures fails { IfErr result (FailsAs (states_turned shape.now before lines.entry)) }
 {
-    let mut out = String::new(alloc);
+    let mut out = Vec::new(alloc);
     let mut left = before;
     for (number, line) in lines {
         if is_skipped(line) {
@@ -39,7 +43,7 @@ fn turn_lines(
             continue;
         }
         match turn(alloc, shape, line, &mut out) {
-            Ok(()) => {}
+            Ok(()) => push_text(b"\n", &mut out)?,
             Err(TurnError::Refused(fault)) => {
                 return Err(ProgramError::Refused(StateReason::Line(number, fault)));
             }
@@ -75,10 +79,10 @@ fn read_values(lines: Lines<'_>) -> Result<Layer, StateError>
     }
 }
 
-/// The other forms of all states of an input.
-pub fn turned(alloc: Global, input: &[u8]) -> Result<String, StateError>
-    ensures shaped { OnOk result (IsShaped (layer_of input.now)) }
-    ensures fails { IfErr result (FailsToTurn (layer_of input.now)) }
+/// The other lines of all states of an input.
+pub fn turned(alloc: Global, input: &[u8]) -> Result<Vec<u8>, StateError>
+    ensures text { IfOk result (λ text. states_text input.now ≡ Ok text.items) }
+    ensures fails { IfErr result (FailsAs (states_text input.now)) }
 {
     let (plan, taken, lines) = read_front(alloc, input)?;
     let text = &input[taken..];
@@ -88,21 +92,21 @@ pub fn turned(alloc: Global, input: &[u8]) -> Result<String, StateError>
     turn_lines(alloc, &shape, lines, layer.registers)
 }
 
-/// Writes the other forms of all states of an input.
+/// Writes the other lines of all states of an input.
 fn turn_text<K: Sink>(alloc: Global, input: &[u8], sink: &mut K) -> Result<(), StateError>
-    ensures { Turns (layer_of input.now) result (K.told sink.old) (K.told sink.new) }
+    ensures { Answers (states_text input.now) result (K.told sink.old) (K.told sink.new) }
 {
     let text = turned(alloc, input)?;
-    Ok(put_all(sink, text.as_bytes())?)
+    Ok(put_all(sink, &text)?)
 }
 
-/// Reads a plan, lines of values and lines of states, and writes the other form of each state.
+/// Reads a plan, lines of values and lines of states, and writes the other line of each state.
 ///
-/// The whole source is read first, at most 2^20 bytes. `Plan` and `Values` come exactly at the
-/// first line of the plan and of the values that fails, and `Line` only if none of these does;
-/// `TooLong` only if the byte after the limit was there. `ReadFault` and `WriteFault` come only if
-/// the source, before its end, or the sink counted a fault, and `NoMemory` if memory was refused.
-/// Nothing was written then, but at `WriteFault` a prefix of the text. `Usage` never comes.
+/// The whole source is read first, at most 2^20 bytes. `Plan`, `Values` and `Line` come exactly at
+/// the first line that fails, of the plan, of the values and of the states; `TooLong` only if the
+/// byte after the limit was there. `ReadFault` and `WriteFault` come only if the source, before its
+/// end, or the sink counted a fault, and `NoMemory` if memory was refused. Nothing was written
+/// then, but at `WriteFault` a prefix of the text. `Usage` never comes.
 pub fn turn_input<S: Source, K: Sink>(
     alloc: Global,
     source: &mut S,

@@ -15,9 +15,10 @@ use edge_io::{Lines, Words, is_skipped, numbers_after};
 /// How many registers a layer has at most.
 const MOST_REGISTERS: usize = 2;
 
-/// How many values a register of a layer has, at least and at most.
+/// How many values a register of a layer has at least.
 const LEAST_VALUES: u64 = 2;
 
+/// How many values a register of a layer has at most.
 const MOST_VALUES: u64 = 65536;
 
 /// The registers of a layer: how many, 0 to 2, and how many values each of them has, 2 to 65536.

@@ -7,18 +7,16 @@
 //! standard error, and what is refused by one line there. The exit codes are those of `counterlab`,
 //! and 1 for any line that is refused.
 //!
-//! What is read and when nothing is written is proved, of [`asking::answer`], and which line of the
-//! plan or of the values is refused; the line of an error of [`program_words::put_error`], and its
-//! code of [`program_words::end`]. Digits are read and written by the crate `state_codec`, whose
-//! contracts say which state they are. Which line of a state is refused, and that states in words
-//! are read and written as they are meant, is tested, and not proved.
+//! What is read, and what is written of each line or why it is refused, is proved, of
+//! [`asking::answer`]; the line of an error of [`program_words::put_error`], and its code of
+//! [`program_words::end`].
 #![tactic(auto)]
 
 mod asking;
 mod calling;
 mod faults;
+mod laws;
 mod layers;
-mod ranges;
 mod reading;
 mod reasons;
 mod requests;

@@ -1,46 +1,33 @@
-ghost use Rattle.std.specs.Prelude.{◌≡◌, ◌<◌, length};
-ghost use Rattle.state_codec.specs.Shapes.{shape_nodes};
+ghost use Rattle.std.specs.Prelude.{◌≡◌, ◌<◌, ◌≤◌, ◌^◌, slice_index, nat_lt};
+ghost use Rattle.state_codec.specs.Shapes.{fields_at, shape_nodes};
 
 use state_codec::StateShape;
-use std::alloc::Global;
-use sync_types::{NoMemory, NodeState};
 
-/// The state of a node, with a register for each that the shape has; one that the node lacks is
-/// zero in each state in range.
-#[derive(Drop)]
-pub struct ShapedState<'a> {
+/// Which fields the states of one node have.
+#[derive(Clone, Copy, Drop)]
+pub struct NodeShape<'a> {
     /// The shape of the states of all nodes.
     pub shape: &'a StateShape,
     /// The node.
     pub node: u32,
-    /// Its state.
-    pub state: NodeState,
     ghost among: { node < shape_nodes shape.now },
-    ghost depth: { length state.registers ≡ shape.now.depth },
 }
 
-impl<'a> ShapedState<'a> {
-    /// The zero state of a node.
-    pub fn zero(
-        alloc: Global,
-        shape: &'a StateShape,
-        node: u32,
-    ) -> Result<ShapedState<'a>, NoMemory>
-        requires { node < shape_nodes shape.now }
-    {
-        let state = NodeState::zero(alloc, shape.depth())?;
-        Ok(ShapedState { shape, node, state })
-    }
-
+impl NodeShape<'_> {
     /// Whether the node has a number that says something: it has more than one value.
-    pub fn has_number(&self) -> bool {
+    pub fn has_number(&self) -> bool
+        ensures { result ≡ nat_lt 1 (fields_at self.now.shape.now self.now.node).base }
+    {
         self.shape.base_of(self.node) > 1
     }
 
-    /// Whether the node has register `i`.
-    pub fn has_register(&self, i: usize) -> bool
+    /// The modulus of register `i`, at most 2^40, and 0 if the node lacks the register.
+    pub fn modulus(&self, i: usize) -> u64
         requires { i < self.now.shape.now.depth }
+        ensures value { result
+            ≡ slice_index (fields_at self.now.shape.now self.now.node).moduli i }
+        ensures most { result ≤ 2 ^ 40 }
     {
-        self.shape.modulus_of(self.node, i) > 0
+        self.shape.modulus_of(self.node, i)
     }
 }

@@ -1,44 +1,109 @@
-//! Writes a state in words.
+//! Writes the lines of a state, in words and in digits.
+//!
+//! Each call puts a text after what stands in `out`. `NoMemory` comes if memory was refused.
 
-use crate::shaped::ShapedState;
-use std::alloc::AllocError;
-use std::fmt::Write;
-use sync_types::Reg;
+ghost use Rattle.std.specs.Prelude.{◌≡◌, ◌<◌, ◌++◌, length, codes, decimal, OnOk};
+ghost use Rattle.state_codec.specs.Shapes.{fields_at};
+ghost use Rattle.state_codec.specs.Ranges.{InRange};
+ghost use Rattle.states.specs.StateTexts.{value_text, register_text, registers_text};
+ghost use Rattle.states.specs.StateTexts.{number_text, worded, in_digits, had};
 
-/// Writes a register, after what parts it from what stands before.
-fn write_register(out: &mut String, before: &str, reg: Reg) -> Result<(), AllocError> {
-    match reg.a {
-        Some(value) => write!(out, "{before}{value}")?,
-        None => write!(out, "{before}infinite")?,
+use crate::shaped::NodeShape;
+use itoa::Buffer;
+use sync_types::{NoMemory, NodeState, Reg};
+
+/// No state has more digits.
+const MOST_DIGITS: usize = 256;
+
+pub fn push_text(text: &[u8], out: &mut Vec<u8>) -> Result<(), NoMemory>
+    ensures { OnOk result (out.new.items ≡ out.old.items ++ text.now) }
+{
+    out.extend_from_slice(text)?;
+    Ok(())
+}
+
+fn push_number(value: u64, out: &mut Vec<u8>) -> Result<(), NoMemory>
+    ensures { OnOk result (out.new.items ≡ out.old.items ++ decimal value) }
+{
+    let mut buffer = Buffer::new();
+    push_text(buffer.format(value).as_bytes(), out)
+}
+
+fn push_value(value: Option<u64>, out: &mut Vec<u8>) -> Result<(), NoMemory>
+    ensures { OnOk result (out.new.items ≡ out.old.items ++ value_text value) }
+{
+    match value {
+        Some(value) => push_number(value, out),
+        None => push_text(b"infinite", out),
     }
-    if reg.d {
-        write!(out, " marked")?;
+}
+
+fn push_register(register: Reg, out: &mut Vec<u8>) -> Result<(), NoMemory>
+    ensures { OnOk result (out.new.items ≡ out.old.items ++ register_text register) }
+{
+    push_text(b" ", out)?;
+    push_value(register.a, out)?;
+    if register.d {
+        push_text(b" marked", out)?;
     }
     Ok(())
 }
 
-impl ShapedState<'_> {
-    /// Writes the registers that the node has.
-    fn write_registers(&self, out: &mut String) -> Result<(), AllocError> {
-        let mut before = " registers ";
+impl NodeShape<'_> {
+    /// Puts the registers that the node has.
+    fn push_registers(&self, state: &NodeState, out: &mut Vec<u8>) -> Result<(), NoMemory>
+        requires { length state.now.registers ≡ self.now.shape.now.depth }
+        ensures { OnOk result (out.new.items ≡ out.old.items
+            ++ registers_text (codes " registers")
+            (had (fields_at self.now.shape.now self.now.node).moduli state.now.registers)) }
+    {
+        let mut before = b" registers".as_slice();
         for i in 0..self.shape.depth() {
-            if self.has_register(i) {
-                write_register(out, before, self.state.reg(i))?;
-                before = ", ";
+            if self.modulus(i) > 0 {
+                push_text(before, out)?;
+                push_register(state.reg(i), out)?;
+                before = b",".as_slice();
             }
         }
         Ok(())
     }
 
-    /// Writes a line with the state in words.
-    pub fn write_words(&self, out: &mut String) -> Result<(), AllocError> {
-        let node = self.node;
-        write!(out, "node {node}")?;
+    /// Puts the number, if it has more than one value.
+    fn push_number(&self, x: u64, out: &mut Vec<u8>) -> Result<(), NoMemory>
+        ensures { OnOk result (out.new.items ≡ out.old.items
+            ++ number_text (fields_at self.now.shape.now self.now.node).base x) }
+    {
         if self.has_number() {
-            let number = self.state.x();
-            write!(out, " number {number}")?;
+            push_text(b" number ", out)?;
+            push_number(x, out)?;
         }
-        self.write_registers(out)?;
-        writeln!(out)
+        Ok(())
+    }
+
+    /// Puts a state in words.
+    pub fn push_words(&self, state: &NodeState, out: &mut Vec<u8>) -> Result<(), NoMemory>
+        requires { length state.now.registers ≡ self.now.shape.now.depth }
+        ensures { OnOk result (out.new.items ≡ out.old.items
+            ++ worded (fields_at self.now.shape.now self.now.node) self.now.node state.now) }
+    {
+        push_text(b"node ", out)?;
+        push_number(u64::from(self.node), out)?;
+        self.push_number(state.x(), out)?;
+        self.push_registers(state, out)
+    }
+
+    /// Puts a state in hex digits.
+    pub fn push_digits(&self, state: &NodeState, out: &mut Vec<u8>) -> Result<(), NoMemory>
+        requires { InRange (fields_at self.now.shape.now self.now.node) state.now }
+        ensures { OnOk result (out.new.items ≡ out.old.items
+            ++ in_digits (fields_at self.now.shape.now self.now.node) self.now.node state.now) }
+    {
+        let mut buffer = [0; MOST_DIGITS];
+        let digits = &mut buffer[..2 * self.shape.bytes_of(self.node)];
+        self.shape.write_hex(self.node, state, digits);
+        push_text(b"node ", out)?;
+        push_number(u64::from(self.node), out)?;
+        push_text(b" ", out)?;
+        push_text(digits, out)
     }
 }
