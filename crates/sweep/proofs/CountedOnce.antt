@@ -1,6 +1,6 @@
 -- Of an era every run is counted once: under its first locked configuration, or under none.
 use Rattle.std.proofs.Common.{◌≡◌, ℕ, zero, suc, ◌+◌, ◌<◌, ◌≤◌, inl, inr, List, [], ◌∷◌, length}
-use Rattle.std.proofs.Common.{Bool, true, false, cond, Option, Some, None, sum_by, count_by, refl}
+use Rattle.std.proofs.Common.{Bool, cond, Option, Some, None, sum_by, count_by, refl}
 use Rattle.std.proofs.Common.{ap, arith}
 use Rattle.std.specs.Prelude.{nat_eq, IfSome}
 use Rattle.std.specs.List.{range_with_len}
@@ -32,12 +32,20 @@ hits_among t a zero from before = absurd (omega arith)
 hits_among t a (suc n) from before = elim (cases_eq t a) [
   | inl is ↦
       let here : is_hit (Some t) a ≡ 1 = ap (λ (b : Bool). cond b 1 0) (eq-eqb t a is) in
-      omega (arith, hits_more (Some t) a n, here,
-      hits_before t (a + 1) n (omega (arith, is)))
+      omega (
+        arith,
+        hits_more (Some t) a n,
+        here,
+        hits_before t (a + 1) n (omega (arith, is)),
+      )
   | inr other ↦
       let here : is_hit (Some t) a ≡ 0 = ap (λ (b : Bool). cond b 1 0) (ne_eqb t a other) in
-      omega (arith, hits_more (Some t) a n, here,
-      hits_among t (a + 1) n (omega (arith, from, other)) (omega (arith, before)))
+      omega (
+        arith,
+        hits_more (Some t) a n,
+        here,
+        hits_among t (a + 1) n (omega (arith, from, other)) (omega (arith, before)),
+      )
 ]
 
 hits_none : (a n : ℕ) → hits None a n ≡ 0

@@ -22,7 +22,7 @@ use Rattle.pulse_plan.specs.Laws.{machine_in}
 use Rattle.pulse_runs.specs.RunInputs as pulses
 use Rattle.pulse_runs.specs.declared.errors.RunRefusal.{RunRefusal}
 use Rattle.pulse_runs.proofs.Scripts.{is_read}
-use Rattle.sweep.specs.Inputs.{is_pulses, swept_of, swept_on_plan, swept_on_pulses}
+use Rattle.sweep.specs.Inputs.{is_pulses, swept_on_plan, swept_on_pulses}
 use Rattle.sweep.specs.Keys.{key_of, keyed}
 use Rattle.sweep.specs.Laws.{EraLine, Firsts, CountsRuns, SaysRuns, first_on_plan, first_on_machine}
 use Rattle.sweep.specs.Laws.{SweepsCountRuns}
@@ -77,7 +77,7 @@ module _ (IsFirst : Firsts) (locks : Locks) (script : Script) (seeds : List ℕ)
         ++ flat_map text (range_with_len 0 (length script.eras + 1)))
         (fun_ext (λ j. sym (text_in (lock_with locks script j) seeds (first_of_era script j)
         (first_of_era script j) (size_of j))));
-    each = λ j le. 
+    each = λ j le.
         let some = era_some script whole j le in
         era_counts j (omega (arith, some)) (firsts j le) (within j le);
   }

@@ -1,6 +1,6 @@
 -- Worked values: the texts of small sweeps, letter by letter.
 use Rattle.std.specs.Prelude.{◌≡◌, ℕ, zero, suc, List, [], ◌∷◌, ◌++◌, map, replicate, true, ◌==◌}
-use Rattle.std.specs.Prelude.{slice_index, if◌then◌else◌, Option, Some, None, Ok, Err, codes}
+use Rattle.std.specs.Prelude.{slice_index, if◌then◌else◌, Some, None, Ok, Err, codes}
 use Rattle.sync_types.specs.States.{zero_register}
 use Rattle.construction.specs.Plans.{Plan}
 use Rattle.machines.specs.Machines.{Machine}

@@ -53,7 +53,10 @@ fn sweep_noise<R: Sweepable, K: Sink, E: Sink>(
 }
 
 /// The runner of the script of an input on its plan.
-fn read_boosting(alloc: Global, input: &[u8]) -> Result<(Plan, BoostingRunner<NoOverlay>), SweepError>
+fn read_boosting(
+    alloc: Global,
+    input: &[u8],
+) -> Result<(Plan, BoostingRunner<NoOverlay>), SweepError>
     ensures read { IfOk result (IsScriptedRun input.now) }
     ensures fails { IfErr result (FailsAs (boosting_read (scripted_of input.now))) }
 {
