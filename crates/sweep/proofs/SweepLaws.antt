@@ -1,6 +1,6 @@
 -- What the text of a sweep says of runs, on a plan and on any machine.
-use Rattle.std.proofs.Common.{◌≡◌, ℕ, ◌+◌, ◌-◌, ◌<◌, ◌≤◌, List, ◌++◌, length, Bool, true, false}
-use Rattle.std.proofs.Common.{cond, Option, Some, None, Result, Ok, Err, refl, sym, ap, subst, arith}
+use Rattle.std.proofs.Common.{◌≡◌, ◌⊎◌, inl, inr, ℕ, ◌+◌, ◌-◌, ◌<◌, ◌≤◌, List, ◌++◌, length}
+use Rattle.std.proofs.Common.{Bool, true, false, cond, Option, Some, None, Result, Ok, Err, refl, sym, ap, subst, arith}
 use Rattle.std.specs.Prelude.{IfOk, IfSome}
 use Rattle.std.specs.List.{flat_map, range_with_len}
 use Rattle.std.proofs.Math.Path.{fun_ext}
@@ -8,6 +8,7 @@ use Rattle.construction.specs.Plans.{Plan, plan_bound}
 use Rattle.machines.specs.Machines.{Machine}
 use Rattle.adversary_script.specs.Scripts.{Script, IsScript}
 use Rattle.adversary_script.specs.Eras.{first_of_era, end_of_era}
+use Rattle.adversary_script.specs.NoiseSaid.{says_noise}
 use Rattle.machine_runner.specs.Played as machine_runs
 use Rattle.machine_runner.specs.ShownTexts.{lock_played}
 use Rattle.machine_runner.proofs.FirstLocked.{firsts_are_locked}
@@ -22,11 +23,15 @@ use Rattle.pulse_plan.specs.Laws.{machine_in}
 use Rattle.pulse_runs.specs.RunInputs as pulses
 use Rattle.pulse_runs.specs.declared.errors.RunRefusal.{RunRefusal}
 use Rattle.pulse_runs.proofs.Scripts.{is_read}
-use Rattle.sweep.specs.Inputs.{is_pulses, swept_on_plan, swept_on_pulses}
+use Rattle.program_words.specs.Conduct.{and_then}
+use Rattle.sweep.specs.Inputs.{is_pulses, noise_sweep, swept_on_plan, swept_on_pulses}
 use Rattle.sweep.specs.Keys.{key_of, keyed}
 use Rattle.sweep.specs.Laws.{EraLine, Firsts, CountsRuns, SaysRuns, first_on_plan, first_on_machine}
-use Rattle.sweep.specs.Laws.{SweepsCountRuns}
-use Rattle.sweep.specs.Sweeps.{Locks, Swept, lock_of, lock_with, on_plan, on_machine}
+use Rattle.sweep.specs.Laws.{SaysOfPlan, SaysOfPulses, SweepsCountRuns}
+use Rattle.sweep.specs.NumberRanges.{NumberRange}
+use Rattle.sweep.specs.declared.reasons.SweepReason.{SweepReason}
+use Rattle.sweep.specs.declared.reasons.SweepReason.TheVariants as reason
+use Rattle.sweep.specs.Sweeps.{Locks, lock_of, lock_with, on_plan, on_machine}
 use Rattle.sweep.specs.SweepTexts.{bound_line, sweep_text}
 use Rattle.sweep.specs.Tallies.{IsOfEra}
 use Rattle.sweep.proofs.EraLines.{lines_in, text_in, runs_in, all_runs, all_least}
@@ -117,32 +122,55 @@ module _ (script : Script) (seeds : List ℕ) (whole : IsScript script) where
 
 -- ---- of an input
 
-plan_script : (read : Result Scripted Refusal) → IfOk read IsRead → (swept : Swept)
-    → swept_on_plan read ≡ Ok swept → IsScript swept.script
-plan_script (Err refusal) is swept same = absurd (cc)
-plan_script (Ok scripted) is swept same =
-    let here : on_plan scripted.plan scripted.script ≡ swept = cc in
-    subst (λ (s : Swept). IsScript s.script) here is.for.whole
+-- a text that is defined, if noise is said, is that text
+written : (says : Bool) (defined text : List ℕ)
+    → (let r : Result (List ℕ) SweepReason = cond says (Ok defined) (Err reason.NoNoise) in r)
+    ≡ Ok text → defined ≡ text
+written true defined text same = cc
+written false defined text same = absurd (cc)
 
-pulses_script : (input : List ℕ) (read : Result pulses.Scripted RunRefusal)
-    → pulses.scripted_of input ≡ read → (swept : Swept)
-    → swept_on_pulses read ≡ Ok swept → IsScript swept.script
-pulses_script input (Err refusal) is swept same = absurd (cc)
-pulses_script input (Ok scripted) is swept same =
-    let here : on_machine (machine_in scripted.plan) scripted.script ≡ swept = cc in
-    subst (λ (s : Swept). IsScript s.script) here (is_read input scripted is).for.whole
+module _ (numbers : NumberRange) (input text : List ℕ) where
+  abbrev seeds_of : List ℕ
+  seeds_of = range_with_len numbers.first numbers.count
 
-input_script : (input : List ℕ) (begins : Bool) (swept : Swept)
-    → cond begins (swept_on_pulses (pulses.scripted_of input)) (swept_on_plan (scripted_of input))
-    ≡ Ok swept → IsScript swept.script
-input_script input true swept same =
-    pulses_script input (pulses.scripted_of input) refl swept same
-input_script input false swept same =
-    plan_script (scripted_of input) (scripted_read input) swept same
+  plan_says : (read : Result Scripted Refusal) → scripted_of input ≡ read → IfOk read IsRead
+      → and_then (swept_on_plan read) (noise_sweep numbers) ≡ Ok text
+      → SaysOfPlan numbers input text
+  plan_says (Err refusal) is for same = absurd (cc)
+  plan_says (Ok read) is for same = record {
+    read = read;
+    is = is;
+    says = subst (SaysRuns (plan_bound read.plan) (first_on_plan read.plan) read.script seeds_of)
+        (written (says_noise read.script) (sweep_text (on_plan read.plan read.script) seeds_of)
+        text same)
+        (plan_counts read.script seeds_of for.for.whole read.plan);
+  }
+
+  pulses_say : (read : Result pulses.Scripted RunRefusal) → pulses.scripted_of input ≡ read
+      → and_then (swept_on_pulses read) (noise_sweep numbers) ≡ Ok text
+      → SaysOfPulses numbers input text
+  pulses_say (Err refusal) is same = absurd (cc)
+  pulses_say (Ok read) is same =
+      let machine : Machine = machine_in read.plan in
+      record {
+        read = read;
+        is = is;
+        says = subst (SaysRuns machine.bound (first_on_machine machine) read.script seeds_of)
+            (written (says_noise read.script) (sweep_text (on_machine machine read.script) seeds_of)
+            text same)
+            (machine_counts read.script seeds_of (is_read input read is).for.whole machine);
+      }
+
+  input_says : (begins : Bool)
+      → and_then (cond begins (swept_on_pulses (pulses.scripted_of input))
+      (swept_on_plan (scripted_of input))) (noise_sweep numbers) ≡ Ok text
+      → SaysOfPlan numbers input text ⊎ SaysOfPulses numbers input text
+  input_says true same = inr (pulses_say (pulses.scripted_of input) refl same)
+  input_says false same = inl (plan_says (scripted_of input) refl (scripted_read input) same)
 
 pub sweeps_count_runs : SweepsCountRuns
 sweeps_count_runs = record {
   plans = λ plan script seeds whole. plan_counts script seeds whole plan;
   machines = λ machine script seeds whole. machine_counts script seeds whole machine;
-  inputs = λ input swept same. input_script input (is_pulses input) swept same;
+  inputs = λ numbers input text same. input_says numbers input text (is_pulses input) same;
 }

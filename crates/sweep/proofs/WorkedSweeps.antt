@@ -9,6 +9,7 @@ use Rattle.sweep.specs.Worked.{SweepsAreSpelled}
 pub sweeps_are_spelled : SweepsAreSpelled
 unfolding digits width script_for start_of lie_of
 sweeps_are_spelled = record {
+  key = refl;
   lines = refl;
   plan = refl;
   pulses = refl;

@@ -1,7 +1,7 @@
 -- What the text of a sweep says: of each era, every run is counted once, in the line of its first
 -- locked configuration.
-use Rattle.std.specs.Prelude.{◌≡◌, ℕ, ◌+◌, ◌≤◌, List, ◌++◌, length, Bool, All, sum_by, count_by}
-use Rattle.std.specs.Prelude.{find, map, Option, Some, unwrap_or, nat_eq, Ok}
+use Rattle.std.specs.Prelude.{◌≡◌, ◌⊎◌, ℕ, ◌+◌, ◌≤◌, List, ◌++◌, length, Bool, All, sum_by}
+use Rattle.std.specs.Prelude.{count_by, find, map, Option, Some, unwrap_or, nat_eq, Ok}
 use Rattle.std.specs.List.{flat_map, range_with_len}
 use Rattle.std.specs.List.Sorted.{IsStrictlyIncreasing}
 use Rattle.std.specs.Option.{option_eq}
@@ -14,9 +14,13 @@ use Rattle.machine_runner.specs.Played as machine_runs
 use Rattle.round_runner.specs.Locks.{IsFirstLocked}
 use Rattle.round_runner.specs.Played.{played_at}
 use Rattle.sweep.specs.Keys.{keyed}
-use Rattle.sweep.specs.Sweeps.{Swept, on_plan, on_machine}
+use Rattle.outcomes.specs.Inputs.{Scripted, scripted_of}
+use Rattle.pulse_plan.specs.Laws.{machine_in}
+use Rattle.pulse_runs.specs.RunInputs as pulses
+use Rattle.sweep.specs.Sweeps.{on_plan, on_machine}
 use Rattle.sweep.specs.SweepTexts.{bound_line, found_line, sweep_text}
-use Rattle.sweep.specs.Inputs.{swept_of}
+use Rattle.sweep.specs.Inputs.{sweep_of}
+use Rattle.sweep.specs.NumberRanges.{NumberRange}
 
 -- what a line of an era says: so many runs first lock so, and this is the first of their numbers
 pub record EraLine : Type 0 where
@@ -69,8 +73,21 @@ first_on_machine machine script j found =
     machine_locks.IsFirstLocked machine script (machine_runs.played_at machine script) j
     script.rounds found
 
--- The text of a sweep says so, of a plan and of any machine, and what is swept of an input has such
--- a script.
+-- A text says so of the plan and the script that an input is, over numbers from the first on, or of
+-- the pulse plan and the script.
+pub record SaysOfPlan (numbers : NumberRange) (input text : List ℕ) : Type 0 where
+  pub read : Scripted
+  pub is : scripted_of input ≡ Ok read
+  pub says : SaysRuns (plan_bound read.plan) (first_on_plan read.plan) read.script
+      (range_with_len numbers.first numbers.count) text
+
+pub record SaysOfPulses (numbers : NumberRange) (input text : List ℕ) : Type 0 where
+  pub read : pulses.Scripted
+  pub is : pulses.scripted_of input ≡ Ok read
+  pub says : SaysRuns (machine_in read.plan).bound (first_on_machine (machine_in read.plan))
+      read.script (range_with_len numbers.first numbers.count) text
+
+-- The text of a sweep says so, of any script on a plan and on any machine, and of an input.
 pub record SweepsCountRuns : Type 0 where
   pub plans : (plan : Plan) (script : Script) (seeds : List ℕ) → IsScript script
       → SaysRuns (plan_bound plan) (first_on_plan plan) script seeds
@@ -78,5 +95,5 @@ pub record SweepsCountRuns : Type 0 where
   pub machines : (machine : Machine) (script : Script) (seeds : List ℕ) → IsScript script
       → SaysRuns machine.bound (first_on_machine machine) script seeds
       (sweep_text (on_machine machine script) seeds)
-  pub inputs : (input : List ℕ) (swept : Swept) → swept_of input ≡ Ok swept
-      → IsScript swept.script
+  pub inputs : (numbers : NumberRange) (input text : List ℕ) → sweep_of numbers input ≡ Ok text
+      → SaysOfPlan numbers input text ⊎ SaysOfPulses numbers input text

@@ -6,6 +6,7 @@ use Rattle.construction.specs.Plans.{Plan}
 use Rattle.machines.specs.Machines.{Machine}
 use Rattle.adversary_script.specs.Scripts.{Script, empty_script}
 use Rattle.pulse_plan.specs.Laws.{machine_in}
+use Rattle.sweep.specs.Keys.{key_of}
 use Rattle.sweep.specs.Sweeps.{Locks, on_plan, on_machine}
 use Rattle.sweep.specs.SweepTexts.{sweep_text}
 use Rattle.sweep.specs.Inputs.{sweep_of}
@@ -62,10 +63,12 @@ one_node = codes "script 2\nfaulty\nstart noise\nera 2 faulty\nrounds 3\nshow 0 
 abbrev pub at_once : List ℕ
 at_once = codes "bound 0\nera 0 locked 0 runs 3 seed 5\nera 2 locked 2 runs 3 seed 5\n"
 
--- Texts of sweeps of two eras. Of runs that are made up, each kind of line; of four nodes of either
--- construction, an era that does not lock, and one that does with the last configuration; of
--- inputs with one node, which is always locked. And a script that says no noise has none.
+-- The key of a number. Texts of sweeps of two eras: of runs that are made up, each kind of line; of
+-- four nodes of either construction, an era that does not lock, and one that does with the last
+-- configuration; of inputs with one node, which is always locked. And a script that says no noise
+-- has none.
 pub record SweepsAreSpelled : Type 0 where
+  pub key : key_of 258 ≡ replicate 6 0 ++ 1 ∷ 2 ∷ replicate 24 0
   pub lines : sweep_text (record { bound = 41; locks = made_up; script = two_eras })
       (5 ∷ 6 ∷ 7 ∷ [])
       ≡ codes "bound 41\nera 0 locked 2 runs 2 seed 5\nera 0 locked none runs 1 seed 6\n"

@@ -57,10 +57,11 @@ pub fn answer<S: Source, K: Sink, E: Sink>(
     ensures unmet { IsErrOf result ProgramError.ReadFault → S.met source.new ≡ S.met source.old }
     // No two numbers have one key.
     ensures keys { KeysDiffer }
-    // Of the text of a sweep the numbers of an era's lines add up to that of the keys, and each
-    // line has the runs with its first locked configuration, on a plan and on any machine.
+    // The runs of an era's lines add up to the numbers that are asked for, and each line has the
+    // runs of which its configuration is the first locked one of that era: so it is with the text
+    // of each input that has a sweep, and with that of any script on any plan and any machine.
     ensures counts { SweepsCountRuns }
-    // The texts of small sweeps, letter by letter.
+    // A key, and the texts of small sweeps, letter by letter.
     ensures worked { SweepsAreSpelled }
 {
     keys_differ();

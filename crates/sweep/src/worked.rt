@@ -2,7 +2,7 @@
 
 ghost use Rattle.sweep.specs.Worked.{SweepsAreSpelled};
 
-/// Sweeps of small inputs have these texts.
+/// A key and the texts of small sweeps, letter by letter.
 pub fn sweeps_are_spelled()
     ensures { SweepsAreSpelled }
 {}
