@@ -8,7 +8,7 @@ ghost use Rattle.sweep.specs.Keys.{keyed};
 ghost use Rattle.sweep.specs.Tallies.{IsOfEra};
 
 use crate::keys::key_of;
-use crate::sweepable::{Sweepable, steps_upto};
+use crate::sweepable::{Sweepable, steps_made};
 use adversary_script::Script;
 use machine_runner::{Runner, play_to};
 use machines::Machine;
@@ -57,7 +57,7 @@ impl<M: Machine> Sweepable for Runner<'_, M> {
     }
 
     fn steps(&self) -> u64 {
-        steps_upto(self.at(), self.nodes())
+        steps_made(self.at(), self.nodes())
     }
 
     fn lock_of(&self, j: usize) -> Option<u64> {

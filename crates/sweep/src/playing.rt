@@ -10,7 +10,7 @@ ghost use Rattle.sweep.specs.Sweeps.{lock_of};
 ghost use Rattle.sweep.specs.Tallies.{IsOfEra};
 
 use crate::keys::key_of;
-use crate::sweepable::{Sweepable, steps_upto};
+use crate::sweepable::{Sweepable, steps_made};
 use adversary_script::Script;
 use counter_core::NoOverlay;
 use round_runner::Runner;
@@ -64,7 +64,7 @@ impl Sweepable for Runner<NoOverlay> {
     }
 
     fn steps(&self) -> u64 {
-        steps_upto(self.at(), self.nodes())
+        steps_made(self.at(), self.nodes())
     }
 
     fn lock_of(&self, j: usize) -> Option<u64> {

@@ -40,6 +40,6 @@ pub trait Sweepable: Drop {
 }
 
 /// How many steps so many nodes made up to a configuration; the start counts as one.
-pub fn steps_upto(at: u64, nodes: u32) -> u64 {
+pub fn steps_made(at: u64, nodes: u32) -> u64 {
     at.saturating_add(1).saturating_mul(u64::from(nodes))
 }
