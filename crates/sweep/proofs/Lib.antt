@@ -7,3 +7,8 @@ pub mod SameRun
 pub mod OnMachines
 pub mod DifferentKeys
 pub mod Answered
+pub mod CountedOnce
+pub mod EraLines
+pub mod RisingLines
+pub mod SweepLaws
+pub mod WorkedSweeps

@@ -30,9 +30,9 @@ abbrev pub is_pulses : (input : List ℕ) → Bool
 is_pulses input = begin_pulses (lines_of input)
 
 -- a plan and a script, or the refusal of one of their lines
-abbrev pub levels_read : Result Scripted Refusal → Result Scripted SweepReason
-levels_read (Ok scripted) = Ok scripted
-levels_read (Err refusal) = Err (reason.Levels refusal)
+abbrev pub boosting_read : Result Scripted Refusal → Result Scripted SweepReason
+boosting_read (Ok scripted) = Ok scripted
+boosting_read (Err refusal) = Err (reason.Boosting refusal)
 
 abbrev pub pulses_read : Result pulses.Scripted RunRefusal → Result pulses.Scripted SweepReason
 pulses_read (Ok scripted) = Ok scripted
@@ -41,7 +41,7 @@ pulses_read (Err refusal) = Err (reason.Pulses refusal)
 -- a script on a plan, and on a pulse plan
 abbrev pub swept_on_plan : Result Scripted Refusal → Result Swept SweepReason
 swept_on_plan read =
-    and_then (levels_read read) (λ scripted. Ok (on_plan scripted.plan scripted.script))
+    and_then (boosting_read read) (λ scripted. Ok (on_plan scripted.plan scripted.script))
 
 abbrev pub swept_on_pulses : Result pulses.Scripted RunRefusal → Result Swept SweepReason
 swept_on_pulses read =

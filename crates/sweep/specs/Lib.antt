@@ -9,3 +9,5 @@ pub mod Inputs
 pub mod Reasons
 pub mod NumberRanges
 pub mod Requests
+pub mod Laws
+pub mod Worked

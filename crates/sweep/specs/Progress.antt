@@ -35,8 +35,8 @@ abbrev pub SaysBy : (is_on : Bool) → (text : List ℕ) → (old new : SinkStat
 SaysBy true text old new = Wrote text old new ⊎ Cut text old new
 SaysBy false text old new = new ≡ old
 
--- What is said of `count` runs: lines of rising numbers, each in place of the one before it, and at
--- last none.
+-- What is said of `count` runs: lines, if any, of rising numbers, each in place of the one before
+-- it, and blanks in place of the last one.
 pub record Says (name : List ℕ) (is_on : Bool) (count : ℕ) (old new : SinkState) : Type 0 where
   pub dones : List ℕ
   pub rising : IsStrictlyIncreasing dones

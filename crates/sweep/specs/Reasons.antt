@@ -12,12 +12,12 @@ usage_text = codes "usage: sweep FIRST COUNT, or sweep --help\n"
 -- An input that is refused has the line of `counterlab run`, and one with a pulse plan that of
 -- `pulselab run`.
 abbrev pub reason_text : SweepReason → List ℕ
-reason_text (reason.Levels refusal) = refusal_line refusal
+reason_text (reason.Boosting refusal) = refusal_line refusal
 reason_text (reason.Pulses refusal) = pulses.refusal_line refusal
 reason_text reason.NoNoise = codes "refused script: it says no noise, so all runs would be one\n"
 
 -- the code is that of `run` for the same cause, and of a script without noise that of a refused one
 abbrev pub code_for : SweepReason → ℕ
-code_for (reason.Levels refusal) = code_of (refusal_status refusal)
+code_for (reason.Boosting refusal) = code_of (refusal_status refusal)
 code_for (reason.Pulses refusal) = pulses.refusal_code refusal
 code_for reason.NoNoise = 3

@@ -4,12 +4,16 @@ ghost use Rattle.std.specs.Prelude.{◌≡◌, map, string_bytes, IsErrOf};
 ghost use Rattle.program_words.specs.Conduct.{LeavesUnread};
 ghost use Rattle.sweep.specs.Conduct.{DoesAsked, SaysAsked, asked_of};
 ghost use Rattle.sweep.specs.Keys.{KeysDiffer};
+ghost use Rattle.sweep.specs.Laws.{SweepsCountRuns};
+ghost use Rattle.sweep.specs.Worked.{SweepsAreSpelled};
 
 use crate::calling::sweep_input;
 use crate::keys::keys_differ;
+use crate::laws::sweeps_count_runs;
 use crate::progress::Progress;
 use crate::reasons::SweepError;
 use crate::requests::request_of;
+use crate::worked::sweeps_are_spelled;
 use edge_io::{Sink, Source, put_all};
 use program_words::{Asked, ProgramError, asked_by};
 use std::alloc::Global;
@@ -53,8 +57,16 @@ pub fn answer<S: Source, K: Sink, E: Sink>(
     ensures unmet { IsErrOf result ProgramError.ReadFault → S.met source.new ≡ S.met source.old }
     // No two numbers have one key.
     ensures keys { KeysDiffer }
+    // The runs of an era's lines add up to the numbers that are asked for, and each line has the
+    // runs of which its configuration is the first locked one of that era: so it is with the text
+    // of each input that has a sweep, and with that of any script on any plan and any machine.
+    ensures counts { SweepsCountRuns }
+    // A key, and the texts of small sweeps, letter by letter.
+    ensures worked { SweepsAreSpelled }
 {
     keys_differ();
+    sweeps_count_runs();
+    sweeps_are_spelled();
     match asked_by(words, request_of(words)) {
         Asked::Help => Ok(put_all(sink, HELP)?),
         Asked::Version => Ok(put_all(sink, b"sweep 1.0\n")?),

@@ -7,7 +7,7 @@ ghost use Rattle.program_words.specs.Conduct.{Answers, FailsAs, and_then};
 ghost use Rattle.pulse_runs.specs.Readings.{IsReadAs};
 ghost use Rattle.pulse_runs.specs.RunInputs as pulses;
 ghost use Rattle.sweep.specs.Conduct.{SweepsInput};
-ghost use Rattle.sweep.specs.Inputs.{levels_read, noise_sweep, pulses_read, sweep_of};
+ghost use Rattle.sweep.specs.Inputs.{boosting_read, noise_sweep, pulses_read, sweep_of};
 ghost use Rattle.sweep.specs.Inputs.{swept_on_plan, swept_on_pulses};
 ghost use Rattle.sweep.specs.Progress.{Says};
 
@@ -26,7 +26,7 @@ use plan_numbers::Plan;
 use program_words::ProgramError;
 use pulse_plan::PulseMachine;
 use pulse_runs::PlayError;
-use round_runner::Runner as LevelsRunner;
+use round_runner::Runner as BoostingRunner;
 use state_codec::StateShape;
 use std::alloc::Global;
 use texts::LONGEST_INPUT;
@@ -53,14 +53,17 @@ fn sweep_noise<R: Sweepable, K: Sink, E: Sink>(
 }
 
 /// The runner of the script of an input on its plan.
-fn read_levels(alloc: Global, input: &[u8]) -> Result<(Plan, LevelsRunner<NoOverlay>), SweepError>
+fn read_boosting(
+    alloc: Global,
+    input: &[u8],
+) -> Result<(Plan, BoostingRunner<NoOverlay>), SweepError>
     ensures read { IfOk result (IsScriptedRun input.now) }
-    ensures fails { IfErr result (FailsAs (levels_read (scripted_of input.now))) }
+    ensures fails { IfErr result (FailsAs (boosting_read (scripted_of input.now))) }
 {
     match answers::read_scripted(alloc, input) {
         Ok(read) => Ok(read),
         Err(Unanswered::Refused(refusal)) => {
-            Err(ProgramError::Refused(SweepReason::Levels(refusal)))
+            Err(ProgramError::Refused(SweepReason::Boosting(refusal)))
         }
         Err(Unanswered::NoMemory) => Err(ProgramError::NoMemory),
         Err(Unanswered::WriteFault) => Err(ProgramError::WriteFault),
@@ -82,7 +85,7 @@ fn sweep_on_plan<K: Sink, E: Sink>(
     ensures progress { Says progress.old.name progress.old.is_on numbers.count
         (E.told progress.old.sink) (E.told progress.new.sink) }
 {
-    let (_, mut runner) = read_levels(alloc, input)?;
+    let (_, mut runner) = read_boosting(alloc, input)?;
     sweep_noise(alloc, &mut runner, numbers, sink, progress)
 }
 
@@ -149,7 +152,7 @@ fn sweep_text<K: Sink, E: Sink>(
 ///
 /// The whole source is read first, at most 2^20 bytes. It is a pulse plan exactly if its first line
 /// that counts is that of one; then `Pulses` comes exactly if `pulselab run` refuses the input, and
-/// else `Levels` exactly if `counterlab run` does. `NoNoise` comes if the script says no noise;
+/// else `Boosting` exactly if `counterlab run` does. `NoNoise` comes if the script says no noise;
 /// `TooLong` only if the byte after the limit was there. `ReadFault` and `WriteFault` come only if
 /// the source, before its end, or the sink counted a fault, and `NoMemory` if memory was refused.
 /// Nothing was written then, but at `WriteFault` a prefix of the text. `Usage` never comes.

@@ -5,16 +5,8 @@ ghost use Rattle.sweep.specs.Keys.{key_of, KeysDiffer};
 pub fn key_of(seed: u64) -> [u8; 32]
     ensures { result ≡ key_of seed }
 {
-    let [a, b, c, d, e, f, g, h] = seed.to_be_bytes();
     let mut key = [0; 32];
-    key[0] = a;
-    key[1] = b;
-    key[2] = c;
-    key[3] = d;
-    key[4] = e;
-    key[5] = f;
-    key[6] = g;
-    key[7] = h;
+    key[..8].copy_from_slice(&seed.to_be_bytes());
     key
 }
 

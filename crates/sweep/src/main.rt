@@ -11,8 +11,10 @@
 //! is wiped before the sweep is written.
 //!
 //! What is read and written is proved, of [`asking::answer`], [`program_words::put_error`] and the
-//! code of [`program_words::end`], and that the numbers of that line rise. Which they are and when
-//! it comes, that the lines go to standard error, and whether that is a terminal, is not.
+//! code of [`program_words::end`], that each run is counted once in an era, under its first locked
+//! configuration ([`laws`]), and that the numbers of the line that says how far it is rise. Which
+//! these are and when it comes, that the lines go to standard error, and whether that is a
+//! terminal, is not.
 //!
 //! The runs are played in one room, one after the other, each until its first locked configurations
 //! are known ([`sweeping::sweep`]). A runner of a plan is [`sweepable::Sweepable`], and so is one
@@ -23,6 +25,7 @@ mod asking;
 mod calling;
 mod inputs;
 mod keys;
+mod laws;
 mod noiseless;
 mod on_machines;
 mod playing;
@@ -33,6 +36,7 @@ mod sweepable;
 mod sweeping;
 mod tallies;
 mod tallying;
+mod worked;
 mod writing;
 
 use crate::asking::answer;

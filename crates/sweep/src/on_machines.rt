@@ -8,7 +8,7 @@ ghost use Rattle.sweep.specs.Keys.{keyed};
 ghost use Rattle.sweep.specs.Tallies.{IsOfEra};
 
 use crate::keys::key_of;
-use crate::sweepable::Sweepable;
+use crate::sweepable::{Sweepable, steps_made};
 use adversary_script::Script;
 use machine_runner::{Runner, play_to};
 use machines::Machine;
@@ -36,12 +36,6 @@ fn lock_of<M: Machine>(runner: &Runner<'_, M>, j: usize) -> Option<u64>
     runner.lock_of(j)
 }
 
-/// How many steps nodes made so far; the start counts as one.
-fn steps_of<M: Machine>(runner: &Runner<'_, M>) -> u64 {
-    let rounds = runner.at().saturating_add(1);
-    rounds.saturating_mul(u64::from(runner.nodes()))
-}
-
 impl<M: Machine> Sweepable for Runner<'_, M> {
     ghost use Rattle.machine_runner.specs.Counting.{Knows};
     ghost use Rattle.sweep.specs.Sweeps.{on_machine};
@@ -63,7 +57,7 @@ impl<M: Machine> Sweepable for Runner<'_, M> {
     }
 
     fn steps(&self) -> u64 {
-        steps_of(self)
+        steps_made(self.at(), self.nodes())
     }
 
     fn lock_of(&self, j: usize) -> Option<u64> {

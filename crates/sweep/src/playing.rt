@@ -10,7 +10,7 @@ ghost use Rattle.sweep.specs.Sweeps.{lock_of};
 ghost use Rattle.sweep.specs.Tallies.{IsOfEra};
 
 use crate::keys::key_of;
-use crate::sweepable::Sweepable;
+use crate::sweepable::{Sweepable, steps_made};
 use adversary_script::Script;
 use counter_core::NoOverlay;
 use round_runner::Runner;
@@ -40,12 +40,6 @@ fn lock_of(runner: &Runner<NoOverlay>, j: usize) -> Option<u64>
     runner.locked_in(j)
 }
 
-/// How many steps nodes made so far; the start counts as one.
-fn steps_of(runner: &Runner<NoOverlay>) -> u64 {
-    let rounds = runner.at().saturating_add(1);
-    rounds.saturating_mul(u64::from(runner.nodes()))
-}
-
 impl Sweepable for Runner<NoOverlay> {
     ghost use Rattle.std.specs.Prelude.{[]};
     ghost use Rattle.counter_core.specs.NoLayers.{no_layer};
@@ -70,7 +64,7 @@ impl Sweepable for Runner<NoOverlay> {
     }
 
     fn steps(&self) -> u64 {
-        steps_of(self)
+        steps_made(self.at(), self.nodes())
     }
 
     fn lock_of(&self, j: usize) -> Option<u64> {

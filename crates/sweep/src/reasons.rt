@@ -7,12 +7,15 @@ use pulse_runs::RunRefusal;
 #[derive(Clone, Copy, Debug, PartialEq, Eq)]
 pub enum SweepReason {
     /// The input is refused, as `counterlab run` refuses it.
-    Levels(Refusal),
+    Boosting(Refusal),
     /// The input begins with a pulse plan, and is refused, as `pulselab run` refuses it.
     Pulses(RunRefusal),
     /// The script says no noise, so all runs would be one.
     NoNoise,
 }
+
+/// The exit code of a script that is refused, as `counterlab run` has it.
+const SCRIPT_REFUSED: u8 = 3;
 
 /// Why a sweep was not written, or not all of it.
 pub type SweepError = ProgramError<SweepReason>;
@@ -39,15 +42,15 @@ impl Reason for SweepReason {
 
     fn code(&self) -> u8 {
         match *self {
-            SweepReason::Levels(refusal) => refusal.status().code(),
+            SweepReason::Boosting(refusal) => refusal.status().code(),
             SweepReason::Pulses(refusal) => refusal.code(),
-            SweepReason::NoNoise => 3,
+            SweepReason::NoNoise => SCRIPT_REFUSED,
         }
     }
 
     fn put_line<K: Sink>(&self, sink: &mut K) -> Result<(), WriteFault> {
         match *self {
-            SweepReason::Levels(refusal) => put_refusal(sink, refusal),
+            SweepReason::Boosting(refusal) => put_refusal(sink, refusal),
             SweepReason::Pulses(refusal) => pulse_runs::put_refusal(sink, refusal),
             SweepReason::NoNoise => put_all(
                 sink,

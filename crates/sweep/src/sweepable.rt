@@ -38,3 +38,8 @@ pub trait Sweepable: Drop {
         ensures lock { result ≡ (swept self.now).locks (swept self.now).script j }
         ensures within { IfSome result (IsOfEra (swept self.now).script j) };
 }
+
+/// How many steps so many nodes made up to a configuration; the start counts as one.
+pub fn steps_made(at: u64, nodes: u32) -> u64 {
+    at.saturating_add(1).saturating_mul(u64::from(nodes))
+}

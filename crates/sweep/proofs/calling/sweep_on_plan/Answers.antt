@@ -2,7 +2,7 @@ use Rattle.std.proofs.Common.{Ok, Result, ap, refl}
 use Rattle.outcomes.specs.Inputs.{scripted_of}
 use Rattle.program_words.proofs.Answered.{answers_as, answers_fails, fails_then}
 use Rattle.program_words.specs.Conduct.{and_then}
-use Rattle.sweep.specs.Inputs.{levels_read, noise_sweep, swept_on_plan}
+use Rattle.sweep.specs.Inputs.{boosting_read, noise_sweep, swept_on_plan}
 use Rattle.sweep.specs.Sweeps.{Swept, on_plan}
 use Rattle.sweep.specs.declared.reasons.SweepReason.{SweepReason}
 use Rattle.sweep.proofs.Answered.{plan_is}
@@ -13,7 +13,7 @@ returns-in_err-runner-clause-answers g c =
     let read = scripted_of c.args.input.now in
     answers_fails _ _ _ _
     (fails_then _ (swept_on_plan read) (noise_sweep c.args.numbers) _ refl
-    (fails_then (swept_on_plan read) (levels_read read)
+    (fails_then (swept_on_plan read) (boosting_read read)
     (λ scripted. Ok (on_plan scripted.plan scripted.script)) _ refl
     c.in_err-runner.ensures.fails))
     c.from_residual.ensures.1

@@ -1,10 +1,10 @@
 use Rattle.std.proofs.Common.{ap}
-use Rattle.sweep.specs.Inputs.{levels_read}
-use Rattle.sweep.proofs.calling.read_levels.Goals as goal
+use Rattle.sweep.specs.Inputs.{boosting_read}
+use Rattle.sweep.proofs.calling.read_boosting.Goals as goal
 
 pub returns-in-Err-Refused-clause-fails : goal.returns-in-Err-Refused-clause-fails
 returns-in-Err-Refused-clause-fails c =
-    ap levels_read (rw c.in-Err-Refused.field-0-is at c.in-Err-Refused.ensures)
+    ap boosting_read (rw c.in-Err-Refused.field-0-is at c.in-Err-Refused.ensures)
 
 pub returns-in-Err-WriteFault-clause-fails : goal.returns-in-Err-WriteFault-clause-fails
 returns-in-Err-WriteFault-clause-fails c =
