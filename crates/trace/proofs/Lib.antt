@@ -11,3 +11,8 @@ pub mod WordsSoFar
 pub mod Hearing
 pub mod LevelDescent
 pub mod LevelsTraced
+pub mod LockWords
+pub mod TextParts
+pub mod LocksTold
+pub mod PulseLocksTold
+pub mod WorkedTraces

@@ -25,6 +25,7 @@ mod desks;
 mod group_lines;
 mod group_views;
 mod headings;
+mod laws;
 mod level_groups;
 mod level_lines;
 mod level_parts;
