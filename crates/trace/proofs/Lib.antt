@@ -10,7 +10,7 @@ pub mod GroupRegisters
 pub mod WordsSoFar
 pub mod Hearing
 pub mod LevelDescent
-pub mod LevelsTraced
+pub mod BoostingTraced
 pub mod LockWords
 pub mod TextParts
 pub mod LocksTold

@@ -2,7 +2,7 @@
 use Rattle.std.specs.Prelude.{◌≡◌, ℕ, List, [], ◌∷◌, Ok, codes}
 use Rattle.std.specs.List.{concat}
 use Rattle.state_codec.specs.Shapes.{Shape}
-use Rattle.trace.specs.Answers.{levels_trace, pulses_trace, trace_of}
+use Rattle.trace.specs.Answers.{boosting_trace, pulses_trace, trace_of}
 use Rattle.trace.specs.WorkedScripts.{boosting_plan, boosting_script, pulse_plan, pulse_script}
 use Rattle.trace.specs.WorkedScripts.{twelve_plan, twelve_script, seven_plan, seven_script}
 
@@ -111,11 +111,11 @@ IsTracedAt1 nodes input text = trace_of (record { first = 1; last = 1 }) nodes i
 -- configuration 0 and of one node. And of inputs, those of configuration 1: of two nodes that start
 -- in zeros and are named, and of one node alone.
 pub record TracesAreSpelled : Type 0 where
-  pub boosting : (shape : Shape) → levels_trace (record { first = 0; last = 2 }) []
+  pub boosting : (shape : Shape) → boosting_trace (record { first = 0; last = 2 }) []
       (record { plan = boosting_plan; script = boosting_script shape }) ≡ Ok boosting_text
   pub pulses : (shape : Shape) → pulses_trace (record { first = 0; last = 2 }) []
       (record { plan = pulse_plan; script = pulse_script shape }) ≡ Ok pulse_text
-  pub twelve : levels_trace (record { first = 0; last = 0 }) (codes "5" ∷ [])
+  pub twelve : boosting_trace (record { first = 0; last = 0 }) (codes "5" ∷ [])
       (record { plan = twelve_plan; script = twelve_script }) ≡ Ok twelve_text
   pub seven : pulses_trace (record { first = 0; last = 0 }) (codes "3" ∷ [])
       (record { plan = seven_plan; script = seven_script }) ≡ Ok seven_text

@@ -32,7 +32,7 @@ mod level_parts;
 mod line_words;
 mod naming;
 mod node_lines;
-mod of_levels;
+mod of_boosting;
 mod of_pulses;
 mod places;
 mod pulse_desks;
