@@ -10,4 +10,9 @@ pub mod GroupRegisters
 pub mod WordsSoFar
 pub mod Hearing
 pub mod LevelDescent
-pub mod LevelsTraced
+pub mod BoostingTraced
+pub mod LockWords
+pub mod TextParts
+pub mod LocksTold
+pub mod PulseLocksTold
+pub mod WorkedTraces

@@ -17,7 +17,7 @@ use Rattle.state_codec.specs.Shapes.{Shape}
 use Rattle.trace.specs.Wanted.{Wanted}
 use Rattle.trace.specs.declared.reasons.TraceReason.{TraceReason}
 use Rattle.trace.specs.declared.reasons.TraceReason.TheVariants as reason
-use Rattle.trace.specs.Answers.{fails_at_first, levels_trace_or, pulses_trace, trace_by, trace_of}
+use Rattle.trace.specs.Answers.{fails_at_first, boosting_trace_or, pulses_trace, trace_by, trace_of}
 use Rattle.trace.specs.Names.{are_nodes, named_nodes}
 
 module _ (want : Wanted) (words : List (List ℕ)) (plan : PulseNumbers) (script : Script) where
@@ -64,18 +64,18 @@ module _ (want : Wanted) (words : List (List ℕ)) (input : List ℕ) where
       → (at_first : Bool)
       → fails_at_first (first_unskipped 1 (lines_of input)) refusal ≡ at_first
       → trace_of want words input
-      ≡ (if at_first then levels_trace_or want words (scripted_of input)
+      ≡ (if at_first then boosting_trace_or want words (scripted_of input)
       else Err (reason.Pulses refusal))
   of_refused refusal is at_first e =
       ap (trace_by want words (first_unskipped 1 (lines_of input)) input) is
-      ∙ ap (λ (b : Bool). if b then levels_trace_or want words (scripted_of input)
+      ∙ ap (λ (b : Bool). if b then boosting_trace_or want words (scripted_of input)
       else Err (reason.Pulses refusal)) e
 
   -- it is no pulse plan
-  pub of_levels : (refusal : RunRefusal) → pulses.scripted_of input ≡ Err refusal
+  pub of_boosting : (refusal : RunRefusal) → pulses.scripted_of input ≡ Err refusal
       → fails_at_first (first_unskipped 1 (lines_of input)) refusal ≡ true
-      → trace_of want words input ≡ levels_trace_or want words (scripted_of input)
-  of_levels refusal is = of_refused refusal is true
+      → trace_of want words input ≡ boosting_trace_or want words (scripted_of input)
+  of_boosting refusal is = of_refused refusal is true
 
   -- it is refused as one of a pulse plan
   pub refused : (refusal : RunRefusal) → pulses.scripted_of input ≡ Err refusal

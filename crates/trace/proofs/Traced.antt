@@ -21,18 +21,18 @@ use Rattle.program_words.specs.Conduct.{Answers, FailsAs}
 use Rattle.program_words.specs.declared.errors.ProgramError.{ProgramError}
 use Rattle.trace.specs.declared.reasons.TraceReason.{TraceReason}
 use Rattle.trace.specs.declared.reasons.TraceReason.TheVariants as reason
-use Rattle.trace.specs.Answers.{levels_read, levels_trace, levels_trace_or}
+use Rattle.trace.specs.Answers.{boosting_read, boosting_trace, boosting_trace_or}
 use Rattle.trace.specs.Names.{are_nodes, named_nodes}
 
 -- after a reading that failed
 pub unread : {T : Type 0} (want : Wanted) (words : List (List ℕ)) (input : List ℕ)
     (result : Result T (ProgramError TraceReason)) (e : ProgramError TraceReason) (s : SinkState)
-    → FailsAs (levels_read (scripted_of input)) e → IsErrAnd result (λ given. given ≡ e)
-    → Answers (levels_trace_or want words (scripted_of input)) result s s
+    → FailsAs (boosting_read (scripted_of input)) e → IsErrAnd result (λ given. given ≡ e)
+    → Answers (boosting_trace_or want words (scripted_of input)) result s s
 unread want words input result e s fails given =
-    let read = levels_read (scripted_of input) in
-    answers_fails result (levels_trace_or want words (scripted_of input)) e s
-    (fails_then (levels_trace_or want words (scripted_of input)) read (levels_trace want words) e
+    let read = boosting_read (scripted_of input) in
+    answers_fails result (boosting_trace_or want words (scripted_of input)) e s
+    (fails_then (boosting_trace_or want words (scripted_of input)) read (boosting_trace want words) e
     refl fails) given
 
 -- ---- what is answered to a plan and a script
@@ -41,27 +41,27 @@ module _ (want : Wanted) (words : List (List ℕ)) (input : List ℕ) (plan : Pl
     (r : Running NoOverlay) (is : IsScriptedRun input (plan, r)) where
   by_tests : (late all : Bool) → nat_lt r.script.rounds want.last ≡ late
       → are_nodes words (plan_nodes plan) ≡ all
-      → levels_trace_or want words (scripted_of input) ≡ (if late then Err reason.NotPlayed
+      → boosting_trace_or want words (scripted_of input) ≡ (if late then Err reason.NotPlayed
       else if not all then Err reason.NoNode
       else Ok (trace_text plan r.script (named_nodes words (plan_nodes plan)) want.first want.last))
   by_tests late all e e' =
-      ap (levels_trace_or want words) is.read
+      ap (boosting_trace_or want words) is.read
       ∙ ap₂ (λ (late all : Bool). if late then Err reason.NotPlayed
       else if not all then Err reason.NoNode
       else Ok (trace_text plan r.script (named_nodes words (plan_nodes plan)) want.first want.last))
       e e'
 
   pub not_played : r.script.rounds < want.last
-      → levels_trace_or want words (scripted_of input) ≡ Err reason.NotPlayed
+      → boosting_trace_or want words (scripted_of input) ≡ Err reason.NotPlayed
   not_played lt = by_tests true (are_nodes words (plan_nodes plan)) (lt-ltb _ _ lt) refl
 
   pub no_node : want.last ≤ r.script.rounds → are_nodes words (plan_nodes plan) ≡ false
-      → levels_trace_or want words (scripted_of input) ≡ Err reason.NoNode
+      → boosting_trace_or want words (scripted_of input) ≡ Err reason.NoNode
   no_node le none = by_tests false false (le-ltb _ _ le) none
 
   pub traced : want.last ≤ r.script.rounds → (ids : List ℕ)
       → (are_nodes words (plan_nodes plan) ≡ true) × (ids ≡ named_nodes words (plan_nodes plan))
-      → levels_trace_or want words (scripted_of input)
+      → boosting_trace_or want words (scripted_of input)
       ≡ Ok (trace_text r.plan r.script ids want.first want.last)
   traced le ids named =
       by_tests false true (le-ltb _ _ le) named.0

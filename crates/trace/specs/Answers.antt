@@ -28,22 +28,22 @@ fails_at_first first (refusal.Plan line premise) = is_first first line
 fails_at_first first (refusal.Part part line rule) = false
 
 -- a plan and a script, or the refusal of one of their lines
-abbrev pub levels_read : Result Scripted Refusal → Result Scripted TraceReason
-levels_read (Ok scripted) = Ok scripted
-levels_read (Err refusal) = Err (reason.Levels refusal)
+abbrev pub boosting_read : Result Scripted Refusal → Result Scripted TraceReason
+boosting_read (Ok scripted) = Ok scripted
+boosting_read (Err refusal) = Err (reason.Boosting refusal)
 
 module _ (want : Wanted) (words : List (List ℕ)) where
-  -- of a plan of levels over blocks and a script: the words are refused if the last wanted
-  -- configuration is not played, or a word names no node
-  abbrev pub levels_trace : Scripted → Result (List ℕ) TraceReason
-  levels_trace s =
+  -- of a boosting plan and a script: the words are refused if the last wanted configuration is not
+  -- played, or a word names no node
+  abbrev pub boosting_trace : Scripted → Result (List ℕ) TraceReason
+  boosting_trace s =
       if nat_lt s.script.rounds want.last then Err reason.NotPlayed
       else if not (are_nodes words (plan_nodes s.plan)) then Err reason.NoNode
       else Ok (trace_text s.plan s.script (named_nodes words (plan_nodes s.plan)) want.first
       want.last)
 
-  abbrev pub levels_trace_or : Result Scripted Refusal → Result (List ℕ) TraceReason
-  levels_trace_or read = and_then (levels_read read) levels_trace
+  abbrev pub boosting_trace_or : Result Scripted Refusal → Result (List ℕ) TraceReason
+  boosting_trace_or read = and_then (boosting_read read) boosting_trace
 
   -- and of a pulse plan and a script
   abbrev pub pulses_trace : pulses.Scripted → Result (List ℕ) TraceReason
@@ -54,12 +54,12 @@ module _ (want : Wanted) (words : List (List ℕ)) where
       want.last)
 
   -- By what an input is as a pulse plan and a script: if its first line that counts is not that of
-  -- a pulse plan, the input is read as a plan of levels over blocks and a script.
+  -- a pulse plan, the input is read as a boosting plan and a script.
   abbrev pub trace_by : (first : Option ℕ) → (input : List ℕ)
       → Result pulses.Scripted RunRefusal → Result (List ℕ) TraceReason
   trace_by first input (Ok s) = pulses_trace s
   trace_by first input (Err refused) =
-      if fails_at_first first refused then levels_trace_or (scripted_of input)
+      if fails_at_first first refused then boosting_trace_or (scripted_of input)
       else Err (reason.Pulses refused)
 
   abbrev pub trace_of : (input : List ℕ) → Result (List ℕ) TraceReason

@@ -20,3 +20,6 @@ pub mod Places
 pub mod TraceTexts
 pub mod Wanted
 pub mod Wants
+pub mod Laws
+pub mod Worked
+pub mod WorkedScripts

@@ -13,7 +13,7 @@ usage_text = codes "usage: trace FROM TO [NODE ..] < PLAN_AND_SCRIPT, or trace -
 -- An input that is refused has the line of `counterlab run`, and one with a pulse plan that of
 -- `pulselab run`.
 abbrev pub reason_text : TraceReason → List ℕ
-reason_text (reason.Levels refusal) = refusal_line refusal
+reason_text (reason.Boosting refusal) = refusal_line refusal
 reason_text (reason.Pulses refusal) = pulses.refusal_line refusal
 reason_text reason.NotPlayed = codes "refused words: TO is above the script's rounds\n"
 reason_text reason.NoNode = codes "refused words: the plan has no such node\n"
@@ -21,7 +21,7 @@ reason_text reason.NoNode = codes "refused words: the plan has no such node\n"
 -- the code is that of `run` for the same cause, and of words that the input refuses that of words
 -- which ask for nothing
 abbrev pub code_for : TraceReason → ℕ
-code_for (reason.Levels refusal) = code_of (refusal_status refusal)
+code_for (reason.Boosting refusal) = code_of (refusal_status refusal)
 code_for (reason.Pulses refusal) = pulses.refusal_code refusal
 code_for reason.NotPlayed = code_of status.Usage
 code_for reason.NoNode = code_of status.Usage

@@ -4,7 +4,7 @@ ghost use Rattle.std.specs.Prelude.{◌≡◌, map, string_bytes};
 ghost use Rattle.program_words.specs.Conduct.{Answers};
 ghost use Rattle.trace.specs.Answers.{is_first, fails_at_first, trace_of};
 
-use crate::of_levels::write_levels_trace;
+use crate::of_boosting::write_boosting_trace;
 use crate::of_pulses::write_pulses_trace;
 use crate::reasons::{TraceError, TraceReason};
 use crate::wants::Want;
@@ -58,7 +58,7 @@ pub fn write_trace<K: Sink>(
         }
         Err(PlayError::Refused(refusal)) => {
             if fails_at_first(first_unskipped(input, 1), refusal) {
-                write_levels_trace(alloc, want, words, input, sink)
+                write_boosting_trace(alloc, want, words, input, sink)
             } else {
                 Err(ProgramError::Refused(TraceReason::Pulses(refusal)))
             }

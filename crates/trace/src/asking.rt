@@ -2,12 +2,17 @@
 
 ghost use Rattle.std.specs.Prelude.{◌≡◌, map, string_bytes, IsErrOf};
 ghost use Rattle.program_words.specs.Conduct.{LeavesUnread};
+ghost use Rattle.texts.specs.Growth.{Puts};
 ghost use Rattle.trace.specs.Conduct.{DoesAsked, asked_of};
+ghost use Rattle.trace.specs.HelpText.{help_text, version_text};
+ghost use Rattle.trace.specs.Laws.{LocksAreTold, PulseLocksAreTold};
+ghost use Rattle.trace.specs.Worked.{TracesAreSpelled};
 
 use crate::calling::trace_input;
+use crate::laws::{locks_are_told, pulse_locks_are_told, traces_are_spelled};
 use crate::reasons::TraceError;
 use crate::requests::{node_words, request_of};
-use edge_io::{Sink, Source, put_all};
+use edge_io::{Sink, Source, WriteFault, put_all};
 use program_words::{Asked, ProgramError, asked_by};
 use std::alloc::Global;
 
@@ -17,6 +22,20 @@ const HELP: &[u8] = b"usage: trace FROM TO [NODE ..] < PLAN_AND_SCRIPT\n\
     its pulse plan, as pulselab run does, and writes of each configuration\n\
     from FROM to TO what the nodes hold, and what they make of what they\n\
     hear: of all nodes, or of these.\n";
+
+/// Writes how the program is used.
+fn write_help<K: Sink>(sink: &mut K) -> Result<(), WriteFault>
+    ensures { Puts result help_text (K.told sink.old) (K.told sink.new) }
+{
+    put_all(sink, HELP)
+}
+
+/// Writes the program's name and version.
+fn write_version<K: Sink>(sink: &mut K) -> Result<(), WriteFault>
+    ensures { Puts result version_text (K.told sink.old) (K.told sink.new) }
+{
+    put_all(sink, b"trace 1.0\n")
+}
 
 /// Does what the words ask for. `FROM TO [NODE ..]` asks for a trace of the configurations from
 /// FROM to TO, not above it, and of these nodes, or of all if none is named: each word is a
@@ -39,10 +58,21 @@ pub fn answer<S: Source, K: Sink>(
     ensures unread { LeavesUnread (asked_of (map string_bytes words.now)) source.old source.new }
     // At `ReadFault` the end of the source was not met.
     ensures unmet { IsErrOf result ProgramError.ReadFault → S.met source.new ≡ S.met source.old }
+
+    // In a trace the line of a correct node at the top level, or of a pulse plan in the whole
+    // group, says `locked` exactly if the configuration is locked.
+    ensures locks { LocksAreTold }
+    ensures pulse_locks { PulseLocksAreTold }
+
+    // Traces on a plan of either construction, letter by letter.
+    ensures spelled { TracesAreSpelled }
 {
+    locks_are_told();
+    pulse_locks_are_told();
+    traces_are_spelled();
     match asked_by(words, request_of(words)) {
-        Asked::Help => Ok(put_all(sink, HELP)?),
-        Asked::Version => Ok(put_all(sink, b"trace 1.0\n")?),
+        Asked::Help => Ok(write_help(sink)?),
+        Asked::Version => Ok(write_version(sink)?),
         Asked::Request(want) => trace_input(alloc, want, node_words(words), source, sink),
         Asked::Nothing => Err(ProgramError::Usage),
     }

@@ -8,7 +8,7 @@ use sync_types::Status;
 #[derive(Clone, Copy, Debug, PartialEq, Eq)]
 pub enum TraceReason {
     /// The input is refused, as `counterlab run` refuses it.
-    Levels(Refusal),
+    Boosting(Refusal),
     /// The input begins with a pulse plan, and is refused, as `pulselab run` refuses it.
     Pulses(RunRefusal),
     /// The script does not play the last wanted configuration.
@@ -42,7 +42,7 @@ impl Reason for TraceReason {
 
     fn code(&self) -> u8 {
         match *self {
-            TraceReason::Levels(refusal) => refusal.status().code(),
+            TraceReason::Boosting(refusal) => refusal.status().code(),
             TraceReason::Pulses(refusal) => refusal.code(),
             TraceReason::NotPlayed | TraceReason::NoNode => Status::Usage.code(),
         }
@@ -50,7 +50,7 @@ impl Reason for TraceReason {
 
     fn put_line<K: Sink>(&self, sink: &mut K) -> Result<(), WriteFault> {
         match *self {
-            TraceReason::Levels(refusal) => put_refusal(sink, refusal),
+            TraceReason::Boosting(refusal) => put_refusal(sink, refusal),
             TraceReason::Pulses(refusal) => pulse_runs::put_refusal(sink, refusal),
             TraceReason::NotPlayed => {
                 put_all(sink, b"refused words: TO is above the script's rounds\n")

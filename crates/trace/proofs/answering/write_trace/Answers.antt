@@ -2,7 +2,7 @@ use Rattle.std.proofs.Common.{map, sym, ◌∙◌, ap, refl}
 use Rattle.std.specs.Prelude.{string_bytes}
 use Rattle.trace.specs.Answers.{fails_at_first}
 use Rattle.program_words.proofs.Answered.{answers_as}
-use Rattle.trace.proofs.PulsesTraced.{of_read, of_levels, refused}
+use Rattle.trace.proofs.PulsesTraced.{of_read, of_boosting, refused}
 use Rattle.trace.proofs.answering.write_trace.Goals as goal
 
 pub returns-in_ok-runner-in-Ok : goal.returns-in_ok-runner-in-Ok
@@ -17,10 +17,10 @@ returns-then-fails_at_first g c =
     let refusal = c.in-Err-Refused.refusal in
     let fails = rw c.in-Err-Refused.field-0-is at c.in-Err-Refused.ensures in
     answers_as _ _ _ _ _
-    (of_levels c.args.want (map string_bytes c.args.words.now) c.args.input.now refusal fails
+    (of_boosting c.args.want (map string_bytes c.args.words.now) c.args.input.now refusal fails
     (ap (λ first. fails_at_first first refusal) (sym c.first_unskipped.ensures)
     ∙ (sym c.fails_at_first.ensures ∙ c.if-fails_at_first.true)))
-    c.write_levels_trace.ensures
+    c.write_boosting_trace.ensures
 
 pub returns-else-fails_at_first : goal.returns-else-fails_at_first
 returns-else-fails_at_first g c =

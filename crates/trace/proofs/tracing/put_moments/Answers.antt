@@ -1,7 +1,7 @@
 use Rattle.std.proofs.Common.{ℕ, ◌+◌, [], sym, subst, ◌∙◌, arith}
 use Rattle.trace.specs.Wants.{IsAt}
-use Rattle.trace.proofs.LevelsTraced.{has_round, at_more, fit_here, fit_back, nodes_here, text}
-use Rattle.trace.proofs.LevelsTraced.{text_is}
+use Rattle.trace.proofs.BoostingTraced.{has_round, at_more, fit_here, fit_back, nodes_here, text}
+use Rattle.trace.proofs.BoostingTraced.{text_is}
 use Rattle.trace.proofs.WordsSoFar.{SoFar, so_far_all, so_far_more, so_far_none, so_far_stop}
 use Rattle.trace.proofs.tracing.put_moments.Goals as goal
 

@@ -1,6 +1,6 @@
 use Rattle.trace.specs.Desks.{IsFitFor}
 use Rattle.trace.specs.Wants.{IsAt}
-use Rattle.trace.proofs.LevelsTraced.{text}
+use Rattle.trace.proofs.BoostingTraced.{text}
 use Rattle.trace.proofs.WordsSoFar.{SoFar}
 use Rattle.trace.proofs.tracing.put_moments.Given as goal
 

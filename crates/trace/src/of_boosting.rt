@@ -1,10 +1,10 @@
-//! The trace of a plan of levels over blocks, and a script.
+//! The trace of a boosting plan and a script.
 
 ghost use Rattle.std.specs.Prelude.{map, string_bytes, IfErr, IfOk};
 ghost use Rattle.answers.specs.ScriptedRuns.{IsScriptedRun};
 ghost use Rattle.outcomes.specs.Inputs.{scripted_of};
 ghost use Rattle.program_words.specs.Conduct.{Answers, FailsAs};
-ghost use Rattle.trace.specs.Answers.{levels_read, levels_trace_or};
+ghost use Rattle.trace.specs.Answers.{boosting_read, boosting_trace_or};
 
 use crate::desks::TraceBuffers;
 use crate::naming::named_nodes;
@@ -20,14 +20,14 @@ use round_runner::Runner;
 use std::alloc::Global;
 
 /// The plan of an input, and the runner of its script on it.
-fn read_levels(alloc: Global, input: &[u8]) -> Result<(Plan, Runner<NoOverlay>), TraceError>
+fn read_boosting(alloc: Global, input: &[u8]) -> Result<(Plan, Runner<NoOverlay>), TraceError>
     ensures read { IfOk result (IsScriptedRun input.now) }
-    ensures fails { IfErr result (FailsAs (levels_read (scripted_of input.now))) }
+    ensures fails { IfErr result (FailsAs (boosting_read (scripted_of input.now))) }
 {
     match read_scripted(alloc, input) {
         Ok(read) => Ok(read),
         Err(Unanswered::Refused(refusal)) => {
-            Err(ProgramError::Refused(TraceReason::Levels(refusal)))
+            Err(ProgramError::Refused(TraceReason::Boosting(refusal)))
         }
         Err(Unanswered::NoMemory) => Err(ProgramError::NoMemory),
         Err(Unanswered::WriteFault) => Err(ProgramError::WriteFault),
@@ -36,7 +36,7 @@ fn read_levels(alloc: Global, input: &[u8]) -> Result<(Plan, Runner<NoOverlay>),
 
 /// Writes the trace of an input that is read as such a plan and a script: that of the wanted
 /// configurations and of the nodes that the words name, or of all if there is no word.
-pub fn write_levels_trace<K: Sink>(
+pub fn write_boosting_trace<K: Sink>(
     alloc: Global,
     want: Want,
     words: &[String],
@@ -44,10 +44,10 @@ pub fn write_levels_trace<K: Sink>(
     sink: &mut K,
 ) -> Result<(), TraceError>
     ensures { Answers
-        (levels_trace_or want (map string_bytes words.now) (scripted_of input.now)) result
+        (boosting_trace_or want (map string_bytes words.now) (scripted_of input.now)) result
         (K.told sink.old) (K.told sink.new) }
 {
-    let (plan, mut runner) = read_levels(alloc, input)?;
+    let (plan, mut runner) = read_boosting(alloc, input)?;
     if want.last() > runner.script().rounds() {
         return Err(ProgramError::Refused(TraceReason::NotPlayed));
     }

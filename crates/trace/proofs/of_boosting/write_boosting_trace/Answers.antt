@@ -5,7 +5,7 @@ use Rattle.trace.specs.Names.{named_nodes}
 use Rattle.trace.proofs.NamedNodes.{named_below}
 use Rattle.program_words.proofs.Answered.{answers_cut}
 use Rattle.trace.proofs.Traced.{traced}
-use Rattle.trace.proofs.of_levels.write_levels_trace.Goals as goal
+use Rattle.trace.proofs.of_boosting.write_boosting_trace.Goals as goal
 
 pub put_trace-requires-clause-nodes : goal.put_trace-requires-clause-nodes
 put_trace-requires-clause-nodes g c =
