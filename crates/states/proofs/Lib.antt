@@ -6,4 +6,5 @@ mod SaidStates
 mod StateLines
 mod TurnedBoth
 mod TurnedLines
+mod WorkedStates
 mod WrittenRegisters

@@ -9,3 +9,4 @@ pub mod StateTexts
 pub mod StateWords
 pub mod Turned
 pub mod Values
+pub mod Worked

@@ -4,9 +4,10 @@ ghost use Rattle.std.specs.Prelude.{◌≡◌, map, string_bytes, IsErrOf};
 ghost use Rattle.program_words.specs.Conduct.{LeavesUnread};
 ghost use Rattle.states.specs.Conduct.{DoesAsked, asked_of};
 ghost use Rattle.states.specs.Laws.{EachIsTurned};
+ghost use Rattle.states.specs.Worked.{StatesAreSpelled};
 
 use crate::calling::turn_input;
-use crate::laws::lines_are_turned;
+use crate::laws::{lines_are_turned, states_are_spelled};
 use crate::reasons::StateError;
 use crate::requests::request_of;
 use edge_io::{Sink, Source, put_all};
@@ -42,8 +43,11 @@ pub fn answer<S: Source, K: Sink>(
     ensures unmet { IsErrOf result ProgramError.ReadFault → S.met source.new ≡ S.met source.old }
     // Each of the two lines of a state is turned into the other one.
     ensures both { EachIsTurned }
+    // An input with its text, letter by letter, and one that is refused for each fault of a line.
+    ensures worked { StatesAreSpelled }
 {
     lines_are_turned();
+    states_are_spelled();
     match asked_by(words, request_of(words)) {
         Asked::Help => Ok(put_all(sink, HELP)?),
         Asked::Version => Ok(put_all(sink, b"states 1.0\n")?),
