@@ -1,4 +1,4 @@
--- Worked values: an input with its text, letter by letter, and inputs with the line that is refused.
+-- Worked values: an input with its text, letter by letter, and inputs of which a line is refused.
 use Rattle.std.specs.Prelude.{◌≡◌, ℕ, List, ◌++◌, Ok, Err, codes}
 use Rattle.states.specs.Inputs.{states_text}
 use Rattle.states.specs.declared.faults.Fault.{Fault}

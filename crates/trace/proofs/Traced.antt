@@ -32,7 +32,8 @@ pub unread : {T : Type 0} (want : Wanted) (words : List (List ℕ)) (input : Lis
 unread want words input result e s fails given =
     let read = boosting_read (scripted_of input) in
     answers_fails result (boosting_trace_or want words (scripted_of input)) e s
-    (fails_then (boosting_trace_or want words (scripted_of input)) read (boosting_trace want words) e
+    (fails_then (boosting_trace_or want words (scripted_of input)) read
+    (boosting_trace want words) e
     refl fails) given
 
 -- ---- what is answered to a plan and a script
