@@ -1,4 +1,9 @@
 pub mod Ranges
+pub mod AnyNumbers
+pub mod AttackWords
+pub mod SaysLines
+pub mod LinesLeave
+pub mod ReadAttacks
 pub mod BestOfTries
 pub mod FirstLock
 pub mod DrawsWorked

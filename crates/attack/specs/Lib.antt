@@ -2,6 +2,7 @@ pub mod Draws
 pub mod DrawsWorked
 pub mod Attacks
 pub mod AttackTexts
+pub mod AttackScripts
 pub mod FaultyIds
 pub mod DrawnLines
 pub mod Kinds
