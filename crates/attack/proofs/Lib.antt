@@ -7,6 +7,7 @@ pub mod ReadAttacks
 pub mod BestOfTries
 pub mod FirstLock
 pub mod DrawsWorked
+pub mod AttacksWorked
 pub mod PlanShapes
 pub mod WrittenTexts
 pub mod WrittenAttacks

@@ -206,70 +206,70 @@ last_says f script s r last is =
 -- ---- all lines
 
 module _ (machine : Machine) (shape : Shape) (shaped : IsShapeOf machine shape) (attack : Attack)
-    where
-  abbrev f : ℕ
-  f = machine.faults
+  where
+    abbrev f : ℕ
+    f = machine.faults
 
-  abbrev script : Script
-  script = attack_script shape attack
+    abbrev script : Script
+    script = attack_script shape attack
 
-  abbrev empty : Script
-  empty = empty_script (shape_nodes shape) shape
+    abbrev empty : Script
+    empty = empty_script (shape_nodes shape) shape
 
-  abbrev chosen : Script
-  chosen = record empty { faulty = attack.faulty }
+    abbrev chosen : Script
+    chosen = record empty { faulty = attack.faulty }
 
-  abbrev keyed : Script
-  keyed = record chosen { key = key_bytes attack.key }
+    abbrev keyed : Script
+    keyed = record chosen { key = key_bytes attack.key }
 
-  abbrev begun : Script
-  begun = leave.noisy machine shape shaped attack.faulty (key_bytes attack.key)
+    abbrev begun : Script
+    begun = leave.noisy machine shape shaped attack.faulty (key_bytes attack.key)
 
-  abbrev own_starts : List Start
-  own_starts = map (start_said shape) attack.starts
+    abbrev own_starts : List Start
+    own_starts = map (start_said shape) attack.starts
 
-  lines_say : Says f script (at f (Some kind.StartNoise) begun)
-      (flat_map (start_text machine) attack.starts
-      ++ (flat_map (lie_text machine) attack.lies ++ rounds_text attack.rounds))
-  lines_say =
-      starts_say machine shape shaped attack.faulty (key_bytes attack.key) f script []
-      attack.starts (Some kind.StartNoise)
-      (flat_map (lie_text machine) attack.lies ++ rounds_text attack.rounds) (λ next.
-      lies_say machine shape shaped attack.faulty (key_bytes attack.key) f script own_starts []
-      attack.lies next (rounds_text attack.rounds) (λ last.
-      last_says f script (leave.with_lies machine shape shaped attack.faulty (key_bytes attack.key)
-      own_starts (map (lie_said shape) attack.lies)) attack.rounds last refl))
+    lines_say : Says f script (at f (Some kind.StartNoise) begun)
+        (flat_map (start_text machine) attack.starts
+        ++ (flat_map (lie_text machine) attack.lies ++ rounds_text attack.rounds))
+    lines_say =
+        starts_say machine shape shaped attack.faulty (key_bytes attack.key) f script []
+        attack.starts (Some kind.StartNoise)
+        (flat_map (lie_text machine) attack.lies ++ rounds_text attack.rounds) (λ next.
+        lies_say machine shape shaped attack.faulty (key_bytes attack.key) f script own_starts []
+        attack.lies next (rounds_text attack.rounds) (λ last.
+        last_says f script (leave.with_lies machine shape shaped attack.faulty (key_bytes attack.key)
+        own_starts (map (lie_said shape) attack.lies)) attack.rounds last refl))
 
-  text_says : Says f script (at f None empty) (attack_text machine attack)
-  text_says =
-      let key = key_text attack.key in
-      let rest = flat_map (start_text machine) attack.starts
-      ++ (flat_map (lie_text machine) attack.lies ++ rounds_text attack.rounds) in
-      let begins = joined (codes "start" ∷ codes "noise" ∷ []) ++ 10 ∷ rest in
-      let seeds = joined (codes "seed" ∷ key ∷ []) ++ 10 ∷ begins in
-      let names = map decimal attack.faulty in
-      subst (Says f script (at f None empty)) (sym (head_lines attack.faulty key rest))
-      (step_says f script None empty empty kind.Script (codes "script") (codes "1" ∷ [])
-      (codes "1" ∷ []) (joined (codes "faulty" ∷ names) ++ 10 ∷ seeds) script_solid
-      (line_counts 115 (codes "cript") (codes "1" ∷ []) refl) refl refl (λ u. refl)
-      (step_says f script (Some kind.Script) empty chosen kind.Faulty (codes "faulty") names names
-      seeds (faulty_solid attack.faulty) (line_counts 102 (codes "aulty") names refl) refl
-      (leave.faulty_leaves f empty attack.faulty (all_numbers names) (numbers_are attack.faulty))
-      (λ u. refl)
-      (step_says f script (Some kind.Faulty) chosen keyed kind.Seed (codes "seed") (key ∷ [])
-      (key ∷ []) begins (seed_solid attack.key) (line_counts 115 (codes "eed") (key ∷ []) refl)
-      refl (leave.key_leaves chosen (key_bytes attack.key) (key_of_digits key) (key_is attack.key))
-      (λ u. refl)
-      (step_says f script (Some kind.Seed) keyed begun kind.StartNoise (codes "start")
-      (codes "noise" ∷ []) [] rest noise_solid
-      (line_counts 115 (codes "tart") (codes "noise" ∷ []) refl) refl refl (λ u. refl)
-      lines_say))))
+    text_says : Says f script (at f None empty) (attack_text machine attack)
+    text_says =
+        let key = key_text attack.key in
+        let rest = flat_map (start_text machine) attack.starts
+        ++ (flat_map (lie_text machine) attack.lies ++ rounds_text attack.rounds) in
+        let begins = joined (codes "start" ∷ codes "noise" ∷ []) ++ 10 ∷ rest in
+        let seeds = joined (codes "seed" ∷ key ∷ []) ++ 10 ∷ begins in
+        let names = map decimal attack.faulty in
+        subst (Says f script (at f None empty)) (sym (head_lines attack.faulty key rest))
+        (step_says f script None empty empty kind.Script (codes "script") (codes "1" ∷ [])
+        (codes "1" ∷ []) (joined (codes "faulty" ∷ names) ++ 10 ∷ seeds) script_solid
+        (line_counts 115 (codes "cript") (codes "1" ∷ []) refl) refl refl (λ u. refl)
+        (step_says f script (Some kind.Script) empty chosen kind.Faulty (codes "faulty") names names
+        seeds (faulty_solid attack.faulty) (line_counts 102 (codes "aulty") names refl) refl
+        (leave.faulty_leaves f empty attack.faulty (all_numbers names) (numbers_are attack.faulty))
+        (λ u. refl)
+        (step_says f script (Some kind.Faulty) chosen keyed kind.Seed (codes "seed") (key ∷ [])
+        (key ∷ []) begins (seed_solid attack.key) (line_counts 115 (codes "eed") (key ∷ []) refl)
+        refl (leave.key_leaves chosen (key_bytes attack.key) (key_of_digits key) (key_is attack.key))
+        (λ u. refl)
+        (step_says f script (Some kind.Seed) keyed begun kind.StartNoise (codes "start")
+        (codes "noise" ∷ []) [] rest noise_solid
+        (line_counts 115 (codes "tart") (codes "noise" ∷ []) refl) refl refl (λ u. refl)
+        lines_say))))
 
-  pub attack_is_said : (first_line : ℕ)
-      → IfOk (script_in machine shape first_line (attack_text machine attack))
-      (λ s. s ≡ attack_script shape attack)
-  unfolding script_for
-  attack_is_said first_line =
-      alone_is f script first_line
-      (part_for (shape_nodes shape) f shape first_line (lines_of (attack_text machine attack)))
-      (text_says 0 first_line)
+    pub attack_is_said : (first_line : ℕ)
+        → IfOk (script_in machine shape first_line (attack_text machine attack))
+        (λ s. s ≡ attack_script shape attack)
+    unfolding script_for
+    attack_is_said first_line =
+        alone_is f script first_line
+        (part_for (shape_nodes shape) f shape first_line (lines_of (attack_text machine attack)))
+        (text_says 0 first_line)

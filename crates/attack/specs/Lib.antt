@@ -21,3 +21,4 @@ pub mod PlanTexts
 pub mod ReadBack
 pub mod Reasons
 pub mod Requests
+pub mod AttacksWorked

@@ -2,6 +2,7 @@
 
 ghost use Rattle.std.specs.Prelude.{◌≡◌, map, string_bytes, IsErrOf};
 ghost use Rattle.program_words.specs.Conduct.{LeavesUnread};
+ghost use Rattle.attack.specs.AttacksWorked.{AttacksAreWorked};
 ghost use Rattle.attack.specs.Conduct.{DoesAsked, LeavesUnsaid, asked_of};
 ghost use Rattle.attack.specs.DrawsWorked.{DrawsAreWorked};
 ghost use Rattle.attack.specs.ReadBack.{WrittenIsRead};
@@ -11,7 +12,7 @@ use crate::finding::Found;
 use crate::laws::written_is_read;
 use crate::reasons::AttackError;
 use crate::requests::{kind_words, request_of};
-use crate::search_laws::draws_are_worked;
+use crate::search_laws::{attacks_are_worked, draws_are_worked};
 use edge_io::{Sink, Source, put_all};
 use program_words::{Asked, ProgramError, asked_by};
 use std::alloc::Global;
@@ -55,9 +56,14 @@ pub fn answer<S: Source, K: Sink>(
 
     // The numbers that are drawn are those of SplitMix64: the first two of seed 0, as an example.
     ensures draws { DrawsAreWorked }
+
+    // Worked values: the first try of each kind on a small plan, letter by letter, that it is found,
+    // and what small changes make of an attack.
+    ensures worked { AttacksAreWorked }
 {
     written_is_read();
     draws_are_worked();
+    attacks_are_worked();
     match asked_by(words, request_of(words)) {
         Asked::Help => {
             put_all(sink, HELP)?;

@@ -22,6 +22,12 @@ pub enum AttackReason {
 /// Why an attack was not written, or not all of it.
 pub type AttackError = ProgramError<AttackReason>;
 
+/// The exit code if the input is no plan: that of the word `run` for it.
+const NO_PLAN: u8 = 1;
+
+/// The exit code if no attack is a script: that of the word `run` for a script that is refused.
+const NO_SCRIPT: u8 = 3;
+
 /// The word of a premise, as `counterlab` has it.
 fn premise_word(premise: Premise) -> &'static str
     ensures { result.now ≡ premise_word premise }
@@ -76,8 +82,8 @@ impl Reason for AttackReason {
 
     fn code(&self) -> u8 {
         match *self {
-            AttackReason::Levels(_) | AttackReason::Pulses(_) => 1,
-            AttackReason::NoScript => 3,
+            AttackReason::Levels(_) | AttackReason::Pulses(_) => NO_PLAN,
+            AttackReason::NoScript => NO_SCRIPT,
         }
     }
 

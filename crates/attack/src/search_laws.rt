@@ -1,5 +1,6 @@
 //! The laws of searches and of draws. The functions are empty: their clauses are the laws.
 
+ghost use Rattle.attack.specs.AttacksWorked.{AttacksAreWorked};
 ghost use Rattle.attack.specs.DrawsWorked.{DrawsAreWorked};
 ghost use Rattle.attack.specs.SearchLaws.{SearchesFindBest};
 
@@ -13,4 +14,10 @@ pub fn searches_find_best()
 /// The first two numbers that are drawn with seed 0 are those of SplitMix64.
 pub fn draws_are_worked()
     ensures { DrawsAreWorked }
+{}
+
+/// The first try of each kind on a small plan is the text that is worked out, which is read as a
+/// script, and so the try is found. Small changes make of an attack what is worked out.
+pub fn attacks_are_worked()
+    ensures { AttacksAreWorked }
 {}
