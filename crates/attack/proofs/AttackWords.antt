@@ -1,10 +1,10 @@
 -- The text of an attack as lines of words.
-use Rattle.std.proofs.Common.{◌≡◌, ℕ, ◌%◌, ◌<◌, Bool, true, false, List, [], ◌∷◌, ◌++◌, length, map}
+use Rattle.std.proofs.Common.{◌≡◌, ℕ, ◌<◌, Bool, true, false, List, [], ◌∷◌, ◌++◌, map}
 use Rattle.std.proofs.Common.{All, replicate, Some, refl, sym, ap, subst, ◌∙◌, append_assoc, arith}
-use Rattle.std.proofs.Common.{zero, suc, ◌/◌, ◌^◌}
+use Rattle.std.proofs.Common.{zero, suc}
 use Rattle.std.specs.Prelude.{decimal, codes, nat_lt, if◌then◌else◌}
 use Rattle.std.specs.Int.{w64, to_be_bytes, byte_at, bytes_high_first}
-use Rattle.std.specs.List.{flat_map, AllByRecursion}
+use Rattle.std.specs.List.{flat_map}
 use Rattle.std.proofs.lemmas.Bool.{and_parts, lt-ltb}
 use Rattle.std.proofs.lemmas.Bool.Decides.{nat_tests}
 use Rattle.std.proofs.lemmas.List.{append-nil}
@@ -28,7 +28,7 @@ use Rattle.attack.specs.declared.candidates.Say.TheVariants as say
 use Rattle.attack.specs.declared.candidates.StartLine.{StartLine}
 use Rattle.attack.specs.declared.candidates.LieLine.{LieLine}
 use Rattle.attack.specs.AttackTexts.{drawn_bytes, drawn_digits, node_digits, spaced, key_text}
-use Rattle.attack.specs.AttackTexts.{faulty_text, seed_text, start_text, say_text, lie_front}
+use Rattle.attack.specs.AttackTexts.{faulty_text, start_text, say_text, lie_front}
 use Rattle.attack.specs.AttackTexts.{lie_text, rounds_text}
 use Rattle.attack.specs.AttackScripts.{drawn_state, key_bytes}
 

@@ -1,57 +1,39 @@
 -- The text of an attack is read as the attack's script, or as none.
-use Rattle.std.proofs.Common.{◌≡◌, ℕ, ◌<◌, Bool, true, false, List, [], ◌∷◌, ◌++◌, map}
-use Rattle.std.proofs.Common.{Option, Some, None, Ok, refl, sym, ap, subst, ◌∙◌, append_assoc}
-use Rattle.std.specs.Prelude.{IfOk, IfSome, decimal, codes, if◌then◌else◌}
-use Rattle.std.specs.Option.{option_map}
+use Rattle.std.proofs.Common.{◌≡◌, ℕ, List, [], ◌∷◌, ◌++◌, map}
+use Rattle.std.proofs.Common.{Option, Some, None, refl, sym, subst, ◌∙◌, append_assoc}
+use Rattle.std.specs.Prelude.{IfOk, decimal, codes}
 use Rattle.std.specs.List.{flat_map, AllByRecursion}
-use Rattle.std.specs.Str.{bytes_eq}
-use Rattle.std.proofs.lemmas.Bool.{leb-false, not-false}
 use Rattle.std.proofs.lemmas.List.{append-nil}
 use Rattle.texts.specs.Lines.{lines_of}
 use Rattle.texts.specs.Numbers.{number_of}
 use Rattle.texts.specs.Shapes.{all_numbers}
 use Rattle.texts.specs.Words.{joined}
 use Rattle.texts.proofs.LineWords.{IsWord, is_solid}
-use Rattle.sync_types.specs.States.{State}
-use Rattle.state_codec.specs.Shapes.{Fields, Shape, shape_nodes, fields_at}
+use Rattle.state_codec.specs.Shapes.{Shape, shape_nodes}
 use Rattle.machines.specs.Machines.{Machine}
 use Rattle.machine_runner.specs.Laws.{IsShapeOf}
 use Rattle.adversary_script.specs.declared.kinds.Kind.{Kind}
 use Rattle.adversary_script.specs.declared.kinds.Kind.TheVariants as kind
-use Rattle.adversary_script.specs.declared.lies.CommonStart.TheVariants as common
 use Rattle.adversary_script.specs.declared.lies.Lie.{Lie}
 use Rattle.adversary_script.specs.declared.lies.Start.{Start}
-use Rattle.adversary_script.specs.declared.lies.Who.{Who}
-use Rattle.adversary_script.specs.declared.lies.Who.TheVariants as who
-use Rattle.adversary_script.specs.declared.lies.What.{What}
-use Rattle.adversary_script.specs.declared.lies.What.TheVariants as what
-use Rattle.adversary_script.specs.FaultySteps.{faulty_tests, faulty_tested}
-use Rattle.adversary_script.specs.LieWords.{WhoSaid, everyone, between, named, WhatSaid, noise}
-use Rattle.adversary_script.specs.LieWords.{copy, digits, shift, LieSaid, who_by, what_words}
-use Rattle.adversary_script.specs.LieWords.{with_what, with_who, with_numbers}
-use Rattle.adversary_script.specs.LieSteps.{lie_tests, lie_tested, lie_step, what_of, with_lie}
-use Rattle.adversary_script.specs.Scripts.{Script, empty_script, faulty_sets}
+use Rattle.adversary_script.specs.Scripts.{Script, empty_script}
 use Rattle.adversary_script.specs.ScriptPart.{part_for, script_for}
-use Rattle.adversary_script.specs.StartSteps.{start_tests, start_tested, with_start}
-use Rattle.adversary_script.specs.Steps.{rounds_tests, rounds_tested, show_tests, show_tested}
-use Rattle.adversary_script.specs.Steps.{key_of_digits, with_key}
+use Rattle.adversary_script.specs.Steps.{key_of_digits}
 use Rattle.adversary_script.proofs.ReadOn.{line_counts, at}
-use Rattle.adversary_script.proofs.SoundLines.{sender_below}
-use Rattle.adversary_script.proofs.Tested.{tested_keeps}
 use Rattle.attack.specs.declared.candidates.Say.{Say}
 use Rattle.attack.specs.declared.candidates.Say.TheVariants as say
 use Rattle.attack.specs.declared.candidates.StartLine.{StartLine}
 use Rattle.attack.specs.declared.candidates.LieLine.{LieLine}
 use Rattle.attack.specs.Attacks.{Attack}
-use Rattle.attack.specs.AttackTexts.{node_digits, key_text, start_text, lie_text, rounds_text}
+use Rattle.attack.specs.AttackTexts.{key_text, start_text, lie_text, rounds_text}
 use Rattle.attack.specs.AttackTexts.{attack_text}
-use Rattle.attack.specs.AttackScripts.{drawn_state, key_bytes, what_said, start_said, lie_said}
+use Rattle.attack.specs.AttackScripts.{key_bytes, start_said, lie_said}
 use Rattle.attack.specs.AttackScripts.{attack_script}
 use Rattle.attack.specs.Tried.{script_in}
-use Rattle.attack.proofs.AnyNumbers.{number_is, numbers_are, is_not_all, number_solid}
+use Rattle.attack.proofs.AnyNumbers.{number_is, numbers_are, number_solid}
 use Rattle.attack.proofs.AnyNumbers.{numbers_solid}
 use Rattle.attack.proofs.AttackWords.{head_lines, last_lines, start_words, start_is_line, say_words}
-use Rattle.attack.proofs.AttackWords.{told_words, lie_is_line, node_solid, state_is, key_is}
+use Rattle.attack.proofs.AttackWords.{told_words, lie_is_line, node_solid, key_is}
 use Rattle.attack.proofs.AttackWords.{key_solid}
 use Rattle.attack.proofs.LinesLeave as leave
 use Rattle.attack.proofs.SaysLines.{Says, step_says, end_says, alone_is}

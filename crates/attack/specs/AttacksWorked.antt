@@ -1,6 +1,6 @@
 -- Worked values: the first try of each kind on a small plan, letter by letter, and that it is found;
 -- and small changes.
-use Rattle.std.specs.Prelude.{◌≡◌, ℕ, List, [], ◌∷◌, ◌++◌, map, Bool, true, None, is_some, Ok}
+use Rattle.std.specs.Prelude.{◌≡◌, ℕ, List, [], ◌∷◌, ◌++◌, map, true, None, is_some, Ok}
 use Rattle.std.specs.Prelude.{codes}
 use Rattle.std.specs.List.{range_with_len}
 use Rattle.attack.specs.declared.candidates.Say.TheVariants as say
