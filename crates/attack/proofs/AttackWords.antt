@@ -1,4 +1,5 @@
 -- The text of an attack as lines of words.
+use Rattle.std.proofs.Common.{length}
 use Rattle.std.proofs.Common.{◌≡◌, ℕ, ◌<◌, Bool, true, false, List, [], ◌∷◌, ◌++◌, map}
 use Rattle.std.proofs.Common.{All, replicate, Some, refl, sym, ap, subst, ◌∙◌, append_assoc, arith}
 use Rattle.std.proofs.Common.{zero, suc}
@@ -22,7 +23,8 @@ use Rattle.machine_runner.specs.Laws.{IsShapeOf}
 use Rattle.adversary_script.specs.LieSteps.{state_of_digits}
 use Rattle.adversary_script.specs.Steps.{key_of_digits}
 use Rattle.adversary_script.specs.Writable.{IsKey}
-use Rattle.adversary_script.proofs.WrittenWords.{state_read, key_read, key_plain}
+use Rattle.texts.proofs.Printed.{IsPlain}
+use Rattle.adversary_script.proofs.WrittenWords.{state_read, key_read, key_plain, key_long}
 use Rattle.attack.specs.declared.candidates.Say.{Say}
 use Rattle.attack.specs.declared.candidates.Say.TheVariants as say
 use Rattle.attack.specs.declared.candidates.StartLine.{StartLine}
@@ -162,23 +164,25 @@ node_solid machine node seed =
     digits_solid (nat_lt node machine.nodes) (machine.fields node) seed
 
 -- the digits of a node of a shape are those of its drawn state
-pub state_is : (machine : Machine) (shape : Shape) → IsShapeOf machine shape → (node seed : ℕ)
-    → node < shape_nodes shape
-    → state_of_digits (fields_at shape node) (node_digits machine node seed)
-    ≡ Some (drawn_state (fields_at shape node) seed)
-state_is machine shape shaped node seed lt =
-    let nodes = shaped.nodes in
-    let inside : node < machine.nodes = omega (arith, lt, nodes) in
-    let fields = fields_at shape node in
-    let limited = fields_limited shape node shaped.sound in
-    let digits : node_digits machine node seed
-    ≡ written_text fields (drawn_state fields seed) =
-    ap (λ (there : Bool). if there then drawn_digits (machine.fields node) seed else [])
-    (lt-ltb node machine.nodes inside)
-    ∙ ap (λ (own : Fields). drawn_digits own seed) (sym (shaped.fields node inside)) in
-    ap (state_of_digits fields) digits
-    ∙ state_read fields (drawn_state fields seed) limited
-    (read_is_in_range fields (drawn_bytes seed (bytes_in fields)) limited)
+module _ (machine : Machine) (shape : Shape) (shaped : IsShapeOf machine shape) (node seed : ℕ)
+    (lt : node < shape_nodes shape) where
+  pub digits_are : node_digits machine node seed
+      ≡ written_text (fields_at shape node) (drawn_state (fields_at shape node) seed)
+  digits_are =
+      let nodes = shaped.nodes in
+      let inside : node < machine.nodes = omega (arith, lt, nodes) in
+      ap (λ (there : Bool). if there then drawn_digits (machine.fields node) seed else [])
+      (lt-ltb node machine.nodes inside)
+      ∙ ap (λ (own : Fields). drawn_digits own seed) (sym (shaped.fields node inside))
+
+  pub state_is : state_of_digits (fields_at shape node) (node_digits machine node seed)
+      ≡ Some (drawn_state (fields_at shape node) seed)
+  state_is =
+      let fields = fields_at shape node in
+      let limited = fields_limited shape node shaped.sound in
+      ap (state_of_digits fields) digits_are
+      ∙ state_read fields (drawn_state fields seed) limited
+      (read_is_in_range fields (drawn_bytes seed (bytes_in fields)) limited)
 
 -- ---- the key
 
@@ -211,3 +215,10 @@ key_solid key =
     subst IsWord (key_digits key)
     (all_weaker (nat_lt 32) is_solid solid_above (encode_lower (key_bytes key))
     (key_plain (key_bytes key) (key_is_key key)).above)
+
+pub key_text_plain : (key : ℕ) → IsPlain (key_text key)
+key_text_plain key = subst IsPlain (key_digits key) (key_plain (key_bytes key) (key_is_key key))
+
+pub key_text_long : (key : ℕ) → length (key_text key) ≡ 64
+key_text_long key =
+    ap length (sym (key_digits key)) ∙ key_long (key_bytes key) (key_is_key key)

@@ -8,6 +8,10 @@ pub mod BestOfTries
 pub mod FirstLock
 pub mod DrawsWorked
 pub mod AttacksWorked
+pub mod DrawnIds
+pub mod DrawnLies
+pub mod SoundTexts
+pub mod FreshAttacks
 pub mod PlanShapes
 pub mod WrittenTexts
 pub mod WrittenAttacks

@@ -22,3 +22,4 @@ pub mod ReadBack
 pub mod Reasons
 pub mod Requests
 pub mod AttacksWorked
+pub mod FreshLaws

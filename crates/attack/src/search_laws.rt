@@ -2,6 +2,7 @@
 
 ghost use Rattle.attack.specs.AttacksWorked.{AttacksAreWorked};
 ghost use Rattle.attack.specs.DrawsWorked.{DrawsAreWorked};
+ghost use Rattle.attack.specs.FreshLaws.{FreshIsRead, SearchesFind};
 ghost use Rattle.attack.specs.SearchLaws.{SearchesFindBest};
 
 /// What a search finds is one of its tries, whose text is read as a script for the machine, with
@@ -20,4 +21,11 @@ pub fn draws_are_worked()
 /// script, and so the try is found. Small changes make of an attack what is worked out.
 pub fn attacks_are_worked()
     ensures { AttacksAreWorked }
+{}
+
+/// On a sound machine, whose states have digits that fit a line, each attack that is drawn afresh
+/// is read as its script; so a search of at least one try finds an attack.
+pub fn fresh_attacks_are_read()
+    ensures read { FreshIsRead }
+    ensures found { SearchesFind }
 {}
