@@ -1,7 +1,7 @@
 -- Attacks that are drawn afresh are read as their scripts, and so a search finds one.
-use Rattle.std.proofs.Common.{◌≡◌, ℕ, zero, suc, ◌-◌, ◌*◌, ◌<◌, ◌≤◌, min, Bool, true, false, List, []}
-use Rattle.std.proofs.Common.{◌∷◌, ◌++◌, length, All, Option, Some, None, Result, Ok, refl, sym, ap}
-use Rattle.std.proofs.Common.{subst, ◌∙◌, arith}
+use Rattle.std.proofs.Common.{◌≡◌, ℕ, zero, suc, ◌-◌, ◌*◌, ◌<◌, ◌≤◌, min, true, List, []}
+use Rattle.std.proofs.Common.{◌∷◌, ◌++◌, All, Option, None, refl, sym, ap}
+use Rattle.std.proofs.Common.{subst, arith}
 use Rattle.std.specs.Prelude.{is_some, nat_eq}
 use Rattle.std.specs.List.{flat_map, AllByRecursion}
 use Rattle.std.proofs.lemmas.Bool.{eq-eqb}
@@ -20,16 +20,16 @@ use Rattle.attack.specs.declared.searching.Best.{Best}
 use Rattle.attack.specs.declared.trying.Tried.{Tried}
 use Rattle.attack.specs.declared.trying.Tried.TheVariants as tried
 use Rattle.attack.specs.Attacks.{Attack}
-use Rattle.attack.specs.AttackTexts.{attack_text}
-use Rattle.attack.specs.AttackScripts.{attack_script}
 use Rattle.attack.specs.Draws.{drawn, below}
 use Rattle.attack.specs.Drawings.{Drawing, drawing_for, kind_at, made_by}
-use Rattle.attack.specs.FreshLaws.{IsAttacked, FreshIsRead, SearchesFind}
+use Rattle.attack.specs.FreshLaws.{IsAttacked, FreshIsRead, SearchesFind, PlansAreAttacked}
 use Rattle.attack.specs.Kinds.{kind_lies, kind_faulty, fresh}
-use Rattle.attack.specs.Searches.{better, searched, outcome}
+use Rattle.attack.specs.PlanTexts.{machine_in, shape_in, first_line_of}
+use Rattle.attack.specs.Searches.{better, searched}
 use Rattle.attack.specs.Tried.{tried_as}
 use Rattle.attack.proofs.DrawnIds.{chosen_borne, side_borne}
 use Rattle.attack.proofs.DrawnLies.{IsDrawnLie, below_most, lies_are, all_few}
+use Rattle.attack.proofs.PlanFits.{plans_fit}
 use Rattle.attack.proofs.SoundTexts.{IsToldBy, IsSoundAttack, sound_is_read}
 
 -- what holds of two lists holds of both together
@@ -150,3 +150,8 @@ pub searches_find : SearchesFind
 searches_find machine shape first_line is seed zero kinds some = absurd (omega arith)
 searches_find machine shape first_line is seed (suc tries) kinds some =
     all_found machine shape first_line is seed (suc tries) kinds tries
+
+pub plans_are_attacked : PlansAreAttacked
+plans_are_attacked plan accepted numbers kinds some =
+    searches_find (machine_in plan) (shape_in plan) (first_line_of plan) (plans_fit plan accepted)
+    numbers.seed numbers.runs kinds some

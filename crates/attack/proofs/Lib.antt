@@ -11,6 +11,7 @@ pub mod AttacksWorked
 pub mod DrawnIds
 pub mod DrawnLies
 pub mod SoundTexts
+pub mod PlanFits
 pub mod FreshAttacks
 pub mod PlanShapes
 pub mod WrittenTexts

@@ -1,11 +1,11 @@
 -- The text of an attack is read as its script if no line of it is refused.
-use Rattle.std.proofs.Common.{◌≡◌, ℕ, ◌<◌, ◌≤◌, false, List, [], ◌∷◌, ◌++◌, length, map, All, Option}
-use Rattle.std.proofs.Common.{Some, None, Ok, refl, sym, ap, subst, ◌∙◌, append_assoc, arith, nat_lt}
+use Rattle.std.proofs.Common.{◌≡◌, ℕ, ◌<◌, ◌≤◌, false, List, [], ◌∷◌, ◌++◌, length, map, Option}
+use Rattle.std.proofs.Common.{Some, None, Ok, refl, sym, ap, ◌∙◌, append_assoc, arith, nat_lt}
 use Rattle.std.specs.Prelude.{decimal, codes, true}
 use Rattle.std.specs.List.{flat_map, AllByRecursion}
 use Rattle.std.proofs.lemmas.Bool.{le-ltb}
 use Rattle.std.proofs.lemmas.List.{append-nil, length-map}
-use Rattle.std.proofs.lemmas.List.Elements.{All-nil, All-map, All-from_recursion}
+use Rattle.std.proofs.lemmas.List.Elements.{All-nil, All-from_recursion}
 use Rattle.texts.specs.Lines.{lines_of}
 use Rattle.texts.specs.Words.{joined, text_of}
 use Rattle.texts.proofs.NumberLines.{number_plain, number_short, number_read}
@@ -38,7 +38,7 @@ use Rattle.attack.specs.Attacks.{Attack}
 use Rattle.attack.specs.AttackTexts.{drawn_bytes, key_text, lie_text, rounds_text, attack_text}
 use Rattle.attack.specs.AttackScripts.{key_bytes, what_said, lie_said, attack_script}
 use Rattle.attack.specs.Tried.{script_in}
-use Rattle.attack.proofs.AttackWords.{head_lines, last_lines, say_words, told_words, lie_is_line}
+use Rattle.attack.proofs.AttackWords.{head_lines, last_lines, say_words, lie_is_line}
 use Rattle.attack.proofs.AttackWords.{digits_are, key_is, key_text_plain, key_text_long}
 use Rattle.attack.proofs.DrawnLies.{IsSaidOf, IsDrawnLie}
 

@@ -9,12 +9,16 @@ use Rattle.adversary_script.specs.Writable.{FitsLines}
 use Rattle.attack.specs.AttackScripts.{attack_script}
 use Rattle.attack.specs.AttackTexts.{attack_text}
 use Rattle.attack.specs.Drawings.{drawing_for, made_by}
+use Rattle.attack.specs.Found.{best_found}
 use Rattle.attack.specs.Kinds.{fresh}
+use Rattle.attack.specs.PlanTexts.{IsAcceptedPlan}
 use Rattle.attack.specs.Searches.{searched}
 use Rattle.attack.specs.Tried.{script_in}
 use Rattle.attack.specs.declared.kinds.Kind.{Kind}
+use Rattle.attack.specs.declared.plans.AnyPlan.{AnyPlan}
+use Rattle.attack.specs.declared.requests.Numbers.{Numbers}
 
--- a sound machine, the shape of its states, and digits of these that fit a line
+-- The shape is that of a sound machine's states, whose digits fit a line.
 pub record IsAttacked (machine : Machine) (shape : Shape) : Type 0 where
   pub shaped : IsShapeOf machine shape
   pub sound : IsSound machine
@@ -34,3 +38,8 @@ SearchesFind = (machine : Machine) (shape : Shape) (first_line : ℕ) → IsAtta
     → (seed runs : ℕ) (kinds : List Kind) → 1 ≤ runs
     → is_some (searched machine shape first_line (made_by (drawing_for machine seed runs kinds)) runs)
     ≡ true
+
+-- So a search of at least one try finds an attack on every accepted plan.
+abbrev pub PlansAreAttacked : Type 0
+PlansAreAttacked = (plan : AnyPlan) → IsAcceptedPlan plan → (numbers : Numbers)
+    (kinds : List Kind) → 1 ≤ numbers.runs → is_some (best_found plan numbers kinds) ≡ true

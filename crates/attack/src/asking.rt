@@ -5,6 +5,7 @@ ghost use Rattle.program_words.specs.Conduct.{LeavesUnread};
 ghost use Rattle.attack.specs.AttacksWorked.{AttacksAreWorked};
 ghost use Rattle.attack.specs.Conduct.{DoesAsked, LeavesUnsaid, asked_of};
 ghost use Rattle.attack.specs.DrawsWorked.{DrawsAreWorked};
+ghost use Rattle.attack.specs.FreshLaws.{PlansAreAttacked};
 ghost use Rattle.attack.specs.ReadBack.{WrittenIsRead};
 
 use crate::calling::attack_input;
@@ -12,7 +13,7 @@ use crate::finding::Found;
 use crate::laws::written_is_read;
 use crate::reasons::AttackError;
 use crate::requests::{kind_words, request_of};
-use crate::search_laws::{attacks_are_worked, draws_are_worked};
+use crate::search_laws::{attacks_are_worked, draws_are_worked, fresh_attacks_are_read};
 use edge_io::{Sink, Source, put_all};
 use program_words::{Asked, ProgramError, asked_by};
 use std::alloc::Global;
@@ -54,6 +55,10 @@ pub fn answer<S: Source, K: Sink>(
     // the plan, and the script of the attack after it.
     ensures read_back { WrittenIsRead }
 
+    // A search of at least one try finds an attack on every accepted plan: each attack that is drawn
+    // afresh is a script for it. So `NoScript` never comes.
+    ensures found { PlansAreAttacked }
+
     // The numbers that are drawn are those of SplitMix64: the first two of seed 0, as an example.
     ensures draws { DrawsAreWorked }
 
@@ -64,6 +69,7 @@ pub fn answer<S: Source, K: Sink>(
     written_is_read();
     draws_are_worked();
     attacks_are_worked();
+    fresh_attacks_are_read();
     match asked_by(words, request_of(words)) {
         Asked::Help => {
             put_all(sink, HELP)?;

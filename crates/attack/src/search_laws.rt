@@ -2,7 +2,7 @@
 
 ghost use Rattle.attack.specs.AttacksWorked.{AttacksAreWorked};
 ghost use Rattle.attack.specs.DrawsWorked.{DrawsAreWorked};
-ghost use Rattle.attack.specs.FreshLaws.{FreshIsRead, SearchesFind};
+ghost use Rattle.attack.specs.FreshLaws.{FreshIsRead, SearchesFind, PlansAreAttacked};
 ghost use Rattle.attack.specs.SearchLaws.{SearchesFindBest};
 
 /// What a search finds is one of its tries, whose text is read as a script for the machine, with
@@ -24,8 +24,10 @@ pub fn attacks_are_worked()
 {}
 
 /// On a sound machine, whose states have digits that fit a line, each attack that is drawn afresh
-/// is read as its script; so a search of at least one try finds an attack.
+/// is read as its script, and a search of at least one try finds an attack; so it does on every
+/// accepted plan.
 pub fn fresh_attacks_are_read()
     ensures read { FreshIsRead }
     ensures found { SearchesFind }
+    ensures plans { PlansAreAttacked }
 {}
