@@ -71,8 +71,7 @@ module _ (n f rounds : ℕ) (quorum : 3 * f < n) (most : n ≤ 256) (few : round
   told_by sender lt among [] all = tt
   told_by sender lt among (lie ∷ lies) all =
       let first = all.0 in
-      let same = first.sender_is in
-      (
+      let same = first.sender_is in (
         record {
           inside = omega (arith, same, lt);
           faulty = subst (λ u. is_in faulty u ≡ true) (sym same) among;

@@ -12,6 +12,7 @@ pub mod DrawnIds
 pub mod DrawnLies
 pub mod SoundTexts
 pub mod PlanFits
+pub mod RunsAsked
 pub mod FreshAttacks
 pub mod PlanShapes
 pub mod WrittenTexts

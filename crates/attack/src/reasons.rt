@@ -15,7 +15,7 @@ pub enum AttackReason {
     Levels(PlanRefusal),
     /// The input begins as a pulse plan, and is none: its first line that fails.
     Pulses(PulsesRefusal),
-    /// None of the attacks that were tried is a script for the plan.
+    /// None of the attacks that were tried is a script for the plan. Of at least one try some is.
     NoScript,
 }
 
