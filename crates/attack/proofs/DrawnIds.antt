@@ -82,7 +82,7 @@ module _ (n : ℕ) (ids : List ℕ) where
       All-filter (λ id. not (is_among ids id)) (λ id. id < n) (range_with_len 0 n)
       (below_range 0 n n (omega arith))
 
-  -- as many are left of n nodes as these are not
+  -- of n nodes at most so many are others as these are not
   module _ (rising : IsStrictlyIncreasing ids) (ids_below : All (λ id. id < n) ids) where
     abbrev all : List ℕ
     all = range_with_len 0 n

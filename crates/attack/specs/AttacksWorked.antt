@@ -1,6 +1,5 @@
--- Worked values: the first try of each kind on a small plan, letter by letter, and that it is found;
--- and small changes.
-use Rattle.std.specs.Prelude.{◌≡◌, ℕ, List, [], ◌∷◌, ◌++◌, map, true, None, is_some, Ok}
+-- Worked values: the first try of each kind on a small plan, letter by letter, and small changes.
+use Rattle.std.specs.Prelude.{◌≡◌, ℕ, List, [], ◌∷◌, ◌++◌, map, None, Ok}
 use Rattle.std.specs.Prelude.{codes}
 use Rattle.std.specs.List.{range_with_len}
 use Rattle.attack.specs.declared.candidates.Say.TheVariants as say
@@ -14,7 +13,7 @@ use Rattle.attack.specs.Attacks.{Attack}
 use Rattle.attack.specs.AttackTexts.{attack_text}
 use Rattle.attack.specs.AttackScripts.{attack_script}
 use Rattle.attack.specs.Changes.{change_of, changed}
-use Rattle.attack.specs.Found.{made, best_found}
+use Rattle.attack.specs.Found.{made}
 use Rattle.attack.specs.PlanTexts.{machine_in, shape_in, first_line_of}
 use Rattle.attack.specs.Tried.{script_in}
 
@@ -46,10 +45,8 @@ pub record IsSpelled (plan : AnyPlan) (attack : Attack) (text : List ℕ) : Type
 abbrev pub first_try : AnyPlan → (seed : ℕ) → Kind → Attack
 first_try plan seed kind = made plan (record { seed = seed; runs = 1 }) (kind ∷ []) 0 None
 
--- it has this text, and it is found
-pub record IsFirstTry (plan : AnyPlan) (seed : ℕ) (kind : Kind) (text : List ℕ) : Type 0 where
-  pub spelled : IsSpelled plan (first_try plan seed kind) text
-  pub found : is_some (best_found plan (record { seed = seed; runs = 1 }) (kind ∷ [])) ≡ true
+abbrev pub IsFirstTry : AnyPlan → (seed : ℕ) → Kind → (text : List ℕ) → Type 0
+IsFirstTry plan seed kind text = IsSpelled plan (first_try plan seed kind) text
 
 -- each kind, with numbers of its own
 pub record KindsAreSpelled : Type 0 where
@@ -119,9 +116,9 @@ old = record {
 abbrev pub IsChangedTo : (seed : ℕ) → Attack → Type 0
 IsChangedTo seed new = changed seed 7 100 old ≡ new
 
--- Of sixteen changes each is what it is. The changes that seeds draw: another key; another start of
--- a node, and one more; one less; another faulty node, with the old one's lie; one lie more, and one
--- less; and a lie in other rounds, and with another content.
+-- Which change each of sixteen numbers is. And changes that seeds draw: another key; another start
+-- of a node, a further one, and one less; another faulty node, which has the lie of the old one; a
+-- lie more, and one less; and a lie in other rounds, and one with another content.
 pub record ChangesAreWorked : Type 0 where
   pub sixteen : map change_of (range_with_len 0 16)
       ≡ change.Key ∷ change.Key ∷ change.Key ∷ change.Start ∷ change.Start ∷ change.Start

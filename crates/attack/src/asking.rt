@@ -51,8 +51,8 @@ pub fn answer<S: Source, K: Sink>(
     // At `ReadFault` the end of the source was not met.
     ensures unmet { IsErrOf result ProgramError.ReadFault → S.met source.new ≡ S.met source.old }
 
-    // What is written is read back, as the words `run` of `counterlab` and `pulselab` read it: as
-    // the plan, and the script of the attack after it.
+    // What is written is read back, by the grammars of the words `run` of `counterlab` and
+    // `pulselab`: as the plan, and the script of the attack after it.
     ensures read_back { WrittenIsRead }
 
     // A search of at least one try finds an attack on every accepted plan: each attack that is drawn
@@ -62,8 +62,8 @@ pub fn answer<S: Source, K: Sink>(
     // The numbers that are drawn are those of SplitMix64: the first two of seed 0, as an example.
     ensures draws { DrawsAreWorked }
 
-    // Worked values: the first try of each kind on a small plan, letter by letter, that it is found,
-    // and what small changes make of an attack.
+    // Worked values: the first try of each kind on a small plan, letter by letter, and what small
+    // changes make of an attack.
     ensures worked { AttacksAreWorked }
 {
     written_is_read();

@@ -17,8 +17,8 @@ pub fn draws_are_worked()
     ensures { DrawsAreWorked }
 {}
 
-/// The first try of each kind on a small plan is the text that is worked out, which is read as a
-/// script, and so the try is found. Small changes make of an attack what is worked out.
+/// The first try of each kind on a small plan has the text that is worked out, which is read as its
+/// script, and small changes make of an attack what is worked out.
 pub fn attacks_are_worked()
     ensures { AttacksAreWorked }
 {}
