@@ -104,8 +104,9 @@ module _ (machine : Machine) (shape : Shape) (first_line : ℕ)
         record {
           script = script;
           read = is;
-          says = subst (λ (r : Result Script (At Rule)). IfOk r (λ s. s ≡ attack_script shape attack))
-              is (attack_is_said machine shape target.shaped attack first_line);
+          says = subst
+              (λ (r : Result Script (At Rule)). IfOk r (λ s. s ≡ attack_script shape attack)) is
+              (attack_is_said machine shape target.shaped attack first_line);
           for = for;
           borne = borne_in machine script for;
           is = sym own;

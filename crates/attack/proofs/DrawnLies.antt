@@ -1,5 +1,5 @@
--- The lies that are drawn afresh: rounds and hearers in order, of nodes that there are, and contents
--- that a line can say.
+-- The lies that are drawn afresh: rounds and hearers in order, of nodes that there are, and
+-- contents that a line can say.
 use Rattle.std.proofs.Common.{◌≡◌, ℕ, ◌+◌, ◌-◌, ◌*◌, ◌^◌, ◌<◌, ◌≤◌, min, Bool, true}
 use Rattle.std.proofs.Common.{false, List, [], ◌∷◌, length, refl, arith, inl, inr}
 use Rattle.std.specs.Prelude.{⊤, if◌then◌else◌, ◌==◌}
@@ -129,7 +129,8 @@ module _ (n rounds : ℕ) (some : 1 ≤ n) (few : rounds ≤ most_rounds) where
 
     times_is : (seed : ℕ) → IsDrawnLie n sender (at_times n rounds sender seed)
     times_is seed =
-        lie_of_is n (drawn_span seed rounds) sender (all_hear n) say.Noise (drawn_is seed) all_are tt
+        lie_of_is n (drawn_span seed rounds) sender (all_hear n) say.Noise (drawn_is seed) all_are
+        tt
 
     shadowed_is : (seed : ℕ) → IsDrawnLie n sender (shadow n rounds sender seed)
     shadowed_is seed =

@@ -219,7 +219,8 @@ module _ (machine : Machine) (shape : Shape) (shaped : IsShapeOf machine shape) 
         (flat_map (lie_text machine) attack.lies ++ rounds_text attack.rounds) (λ next.
         lies_say machine shape shaped attack.faulty (key_bytes attack.key) f script own_starts []
         attack.lies next (rounds_text attack.rounds) (λ last.
-        last_says f script (leave.with_lies machine shape shaped attack.faulty (key_bytes attack.key)
+        last_says f script
+        (leave.with_lies machine shape shaped attack.faulty (key_bytes attack.key)
         own_starts (map (lie_said shape) attack.lies)) attack.rounds last refl))
 
     text_says : Says f script (at f None empty) (attack_text machine attack)
@@ -240,7 +241,8 @@ module _ (machine : Machine) (shape : Shape) (shaped : IsShapeOf machine shape) 
         (λ u. refl)
         (step_says f script (Some kind.Faulty) chosen keyed kind.Seed (codes "seed") (key ∷ [])
         (key ∷ []) begins (seed_solid attack.key) (line_counts 115 (codes "eed") (key ∷ []) refl)
-        refl (leave.key_leaves chosen (key_bytes attack.key) (key_of_digits key) (key_is attack.key))
+        refl
+        (leave.key_leaves chosen (key_bytes attack.key) (key_of_digits key) (key_is attack.key))
         (λ u. refl)
         (step_says f script (Some kind.Seed) keyed begun kind.StartNoise (codes "start")
         (codes "noise" ∷ []) [] rest noise_solid

@@ -163,8 +163,8 @@ module _ (machine : Machine) (shape : Shape) (shaped : IsShapeOf machine shape)
   lying sender say.Noise is = tt
   lying sender (say.Copy node) is = is
   lying sender (say.Drawn seed) is =
-      read_is_in_range (fields_at shape sender) (drawn_bytes seed (bytes_in (fields_at shape sender)))
-      (limited sender)
+      read_is_in_range (fields_at shape sender)
+      (drawn_bytes seed (bytes_in (fields_at shape sender))) (limited sender)
   lying sender (say.Shift by) is = tt
 
   sayable : (sender : ℕ) (says : Say) → IsSaidOf n says
@@ -269,7 +269,8 @@ module _ (machine : Machine) (shape : Shape) (shaped : IsShapeOf machine shape)
       (seed_words ∷ []) (common_line common.Noise ∷ behind) seeds
       (lead_end (at f (Some kind.Seed) keyed) (at f (Some kind.StartNoise) begun) script
       (common_line common.Noise ∷ []) behind starts
-      (goes_end f IsLied (at f (Some kind.StartNoise) begun) told script (map (lie_line [] shape) said)
+      (goes_end f IsLied (at f (Some kind.StartNoise) begun) told script
+      (map (lie_line [] shape) said)
       (rounds_line attack.rounds ∷ show_line attack.rounds attack.rounds ∷ end_line ∷ [])
       (lies_lead f begun few no_groups fits limited (Some kind.StartNoise)
       (record { lie = refl; rounds = refl }) [] said many
@@ -284,7 +285,8 @@ module _ (machine : Machine) (shape : Shape) (shaped : IsShapeOf machine shape)
   say_is sender say.Noise lt = refl
   say_is sender (say.Copy node) lt = refl
   say_is sender (say.Drawn seed) lt =
-      ap (λ (word : List ℕ). codes "hex" ∷ word ∷ []) (digits_are machine shape shaped sender seed lt)
+      ap (λ (word : List ℕ). codes "hex" ∷ word ∷ [])
+      (digits_are machine shape shaped sender seed lt)
   say_is sender (say.Shift by) lt = refl
 
   line_more : (line rest : List ℕ) → line ++ 10 ∷ rest ≡ (line ++ 10 ∷ []) ++ rest

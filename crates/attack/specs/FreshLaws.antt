@@ -36,8 +36,8 @@ FreshIsRead = (machine : Machine) (shape : Shape) (first_line : ℕ) → IsAttac
 abbrev pub SearchesFind : Type 0
 SearchesFind = (machine : Machine) (shape : Shape) (first_line : ℕ) → IsAttacked machine shape
     → (seed runs : ℕ) (kinds : List Kind) → 1 ≤ runs
-    → is_some (searched machine shape first_line (made_by (drawing_for machine seed runs kinds)) runs)
-    ≡ true
+    → let made = made_by (drawing_for machine seed runs kinds) in
+    is_some (searched machine shape first_line made runs) ≡ true
 
 -- So a search of at least one try finds an attack on every accepted plan.
 abbrev pub PlansAreAttacked : Type 0

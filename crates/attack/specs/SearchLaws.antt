@@ -25,8 +25,8 @@ IsNoLater (Some lock) (Some than) = lock ≤ than
 
 module _ (machine : Machine) (shape : Shape) (first_line : ℕ) where
   -- The text of an attack is read as a script for the machine, the one that the attack is: with its
-  -- faulty nodes, its key, its starts, its lies and its rounds. In each era few nodes are faulty. Of
-  -- what is played of era 0 the first locked configuration is the one that is stated, or none is
+  -- faulty nodes, its key, its starts, its lies and its rounds. In each era few nodes are faulty.
+  -- Of what is played of era 0 the first locked configuration is the one that is stated, or none is
   -- locked if none is stated.
   pub record IsPlayed (attack : Attack) (lock : Option ℕ) : Type 0 where
     pub script : Script

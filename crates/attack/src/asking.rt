@@ -55,8 +55,8 @@ pub fn answer<S: Source, K: Sink>(
     // `pulselab`: as the plan, and the script of the attack after it.
     ensures read_back { WrittenIsRead }
 
-    // A search of at least one try finds an attack on every accepted plan: each attack that is drawn
-    // afresh is a script for it. So `NoScript` never comes.
+    // A search of at least one try finds an attack on every accepted plan: each attack that is
+    // drawn afresh is a script for it. So `NoScript` never comes.
     ensures found { PlansAreAttacked }
 
     // The numbers that are drawn are those of SplitMix64: the first two of seed 0, as an example.
