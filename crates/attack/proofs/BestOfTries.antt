@@ -19,6 +19,7 @@ use Rattle.machine_runner.proofs.ReadFor.{readers_fit, borne_in}
 use Rattle.machine_runner.proofs.FirstLocked.{firsts_are_locked}
 use Rattle.attack.specs.Attacks.{Attack}
 use Rattle.attack.specs.AttackTexts.{attack_text}
+use Rattle.attack.specs.AttackScripts.{attack_script}
 use Rattle.attack.specs.Targets.{IsTarget}
 use Rattle.attack.specs.Tried.{script_in, tried_as, lock_of}
 use Rattle.attack.specs.Searches.{is_later, better, searched, attack_at, outcome}
@@ -26,6 +27,7 @@ use Rattle.attack.specs.SearchLaws.{IsNoLater, IsPlayed, IsBestOf, SearchesFindB
 use Rattle.attack.specs.declared.searching.Best.{Best}
 use Rattle.attack.specs.declared.trying.Tried.{Tried}
 use Rattle.attack.specs.declared.trying.Tried.TheVariants as tried
+use Rattle.attack.proofs.ReadAttacks.{attack_is_said}
 
 -- ---- later ones
 
@@ -102,6 +104,9 @@ module _ (machine : Machine) (shape : Shape) (first_line : ℕ)
         record {
           script = script;
           read = is;
+          says = subst
+              (λ (r : Result Script (At Rule)). IfOk r (λ s. s ≡ attack_script shape attack)) is
+              (attack_is_said machine shape target.shaped attack first_line);
           for = for;
           borne = borne_in machine script for;
           is = sym own;

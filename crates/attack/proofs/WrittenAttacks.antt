@@ -1,8 +1,9 @@
 -- What was written of an input, by how a call failed.
 use Rattle.std.proofs.Common.{◌≡◌, ℕ, Bool, true, false, List, Option, Result, Ok, Err, refl}
-use Rattle.std.proofs.Common.{subst}
-use Rattle.std.specs.Prelude.{if◌then◌else◌}
+use Rattle.std.proofs.Common.{subst, sym, ap, ◌∙◌}
+use Rattle.std.specs.Prelude.{is_some, if◌then◌else◌}
 use Rattle.std.specs.Result.{IsErrAnd}
+use Rattle.std.proofs.lemmas.Bool.{true≢false}
 use Rattle.std.proofs.lemmas.Result.{err_from_is_err_and}
 use Rattle.texts.specs.Growth.{SinkState, Cut}
 use Rattle.texts.specs.Lines.{lines_of}
@@ -24,7 +25,7 @@ use Rattle.attack.specs.declared.reasons.AttackReason.{AttackReason}
 use Rattle.attack.specs.declared.reasons.AttackReason.TheVariants as reason
 use Rattle.attack.specs.declared.requests.Numbers.{Numbers}
 use Rattle.attack.specs.Conduct.{Attacks, IsAttackedSome}
-use Rattle.attack.specs.Found.{FailsToFind}
+use Rattle.attack.specs.Found.{FailsToFind, best_found}
 use Rattle.attack.specs.PlanInputs.{boosting_answer, boosting_or_refused, is_first, plan_answer}
 use Rattle.attack.specs.PlanInputs.{plan_by, pulses_refused_at}
 use Rattle.attack.specs.Requests.{named_kinds}
@@ -63,17 +64,18 @@ module _ (numbers : Numbers) (words : List (List ℕ)) (input : List ℕ) where
   refused_error error.TooLong s fails = absurd fails
 
   not_found_error : (plan : AnyPlan) (e : ProgramError AttackReason) (s : SinkState)
-      → plan_answer input ≡ Ok plan → FailsToFind plan numbers (named_kinds words) e
+      → is_some (best_found plan numbers (named_kinds words)) ≡ true
+      → FailsToFind plan numbers (named_kinds words) e
       → Attacks numbers words input (Err e) s s
-  not_found_error plan (error.Refused reason.NoScript) s read none =
-      (record { plan = plan; read = read; none = none }, refl)
-  not_found_error plan error.NoMemory s read none = refl
-  not_found_error plan (error.Refused (reason.Levels refusal)) s read none = absurd none
-  not_found_error plan (error.Refused (reason.Pulses refusal)) s read none = absurd none
-  not_found_error plan error.Usage s read none = absurd none
-  not_found_error plan error.ReadFault s read none = absurd none
-  not_found_error plan error.WriteFault s read none = absurd none
-  not_found_error plan error.TooLong s read none = absurd none
+  not_found_error plan (error.Refused reason.NoScript) s found none =
+      absurd (true≢false (sym found ∙ ap is_some none.is))
+  not_found_error plan error.NoMemory s found none = refl
+  not_found_error plan (error.Refused (reason.Levels refusal)) s found none = absurd none
+  not_found_error plan (error.Refused (reason.Pulses refusal)) s found none = absurd none
+  not_found_error plan error.Usage s found none = absurd none
+  not_found_error plan error.ReadFault s found none = absurd none
+  not_found_error plan error.WriteFault s found none = absurd none
+  not_found_error plan error.TooLong s found none = absurd none
 
   module _ (result : Result Found (ProgramError AttackReason)) where
     -- after a plan that was not read
@@ -84,12 +86,13 @@ module _ (numbers : Numbers) (words : List (List ℕ)) (input : List ℕ) where
 
     -- after a search that found none
     pub not_found : (plan : AnyPlan) (kinds : List Kind) (e : ProgramError AttackReason)
-        (s : SinkState) → plan_answer input ≡ Ok plan → kinds ≡ named_kinds words
+        (s : SinkState) → is_some (best_found plan numbers kinds) ≡ true → kinds ≡ named_kinds words
         → FailsToFind plan numbers kinds e → IsErrAnd result (λ given. given ≡ e)
         → Attacks numbers words input result s s
-    not_found plan kinds e s read same none given =
+    not_found plan kinds e s found same none given =
         let p = err_from_is_err_and result given in
-        rw (p.1, p.2) (not_found_error plan e s read
+        rw (p.1, p.2) (not_found_error plan e s
+        (ap (λ (kinds : List Kind). is_some (best_found plan numbers kinds)) (sym same) ∙ found)
         (subst (λ (kinds : List Kind). FailsToFind plan numbers kinds e) same none))
 
     -- after a write that failed

@@ -13,7 +13,7 @@ use Rattle.attack.specs.declared.plans.AnyPlan.{AnyPlan}
 use Rattle.attack.specs.declared.reasons.AttackReason.{AttackReason}
 use Rattle.attack.specs.declared.reasons.AttackReason.TheVariants as reason
 use Rattle.attack.specs.declared.requests.Numbers.{Numbers}
-use Rattle.attack.specs.Found.{Finds, FindsNone}
+use Rattle.attack.specs.Found.{Finds}
 use Rattle.attack.specs.HelpText.{help_text, version_text}
 use Rattle.attack.specs.PlanInputs.{plan_answer}
 use Rattle.attack.specs.PlanTexts.{text_of, IsAcceptedPlan}
@@ -35,15 +35,9 @@ module _ (numbers : Numbers) (words : List (List ℕ)) (input : List ℕ) where
     pub found : Found
     pub attacked : IsAttacked found holds
 
-  -- the input is a plan, and no attack that was tried is a script for it
-  pub record HasNoScript : Type 0 where
-    pub plan : AnyPlan
-    pub read : plan_answer input ≡ Ok plan
-    pub none : FindsNone plan numbers (named_kinds words)
-
-  -- why there is no attack: the input is refused, or no attack that was tried is a script
+  -- why there is no attack: the input is refused; some attack that is tried is always a script
   abbrev pub IsRefused : AttackReason → Type 0
-  IsRefused reason.NoScript = HasNoScript
+  IsRefused reason.NoScript = ⊥
   IsRefused other = plan_answer input ≡ Err other
 
   -- What was written of an input: the texts of its plan and of the attack on it; or nothing, if

@@ -2,6 +2,7 @@ pub mod Draws
 pub mod DrawsWorked
 pub mod Attacks
 pub mod AttackTexts
+pub mod AttackScripts
 pub mod FaultyIds
 pub mod DrawnLines
 pub mod Kinds
@@ -20,3 +21,5 @@ pub mod PlanTexts
 pub mod ReadBack
 pub mod Reasons
 pub mod Requests
+pub mod AttacksWorked
+pub mod FreshLaws

@@ -24,7 +24,7 @@ pub record IsReadAs {P R : Type 0} (front : Result (Found P) (At R))
   pub same : found.value ≡ own
   pub behind : scripted (1 + found.taken) found.behind ≡ Ok script
 
--- as the words `run` of both programs read a text
+-- by the grammars of the words `run` of both programs
 abbrev pub ReadsAs : (text : List ℕ) → AnyPlan → Script → Type 0
 ReadsAs text (plan.Boosting own) script =
     IsReadAs (plan_of text)

@@ -9,6 +9,7 @@ use Rattle.machine_runner.specs.Locks.{IsFirstLocked}
 use Rattle.machine_runner.specs.Played.{played_at}
 use Rattle.attack.specs.Attacks.{Attack}
 use Rattle.attack.specs.AttackTexts.{attack_text}
+use Rattle.attack.specs.AttackScripts.{attack_script}
 use Rattle.attack.specs.Targets.{IsTarget}
 use Rattle.attack.specs.Tried.{script_in, lock_of}
 use Rattle.attack.specs.Searches.{searched, attack_at, outcome}
@@ -23,12 +24,14 @@ IsNoLater None (Some than) = ⊥
 IsNoLater (Some lock) (Some than) = lock ≤ than
 
 module _ (machine : Machine) (shape : Shape) (first_line : ℕ) where
-  -- The text of an attack is read as a script for the machine. In each era few nodes are faulty. Of
-  -- what is played of era 0 the first locked configuration is the one that is stated, or none is
+  -- The text of an attack is read as a script for the machine, the one that the attack is: with its
+  -- faulty nodes, its key, its starts, its lies and its rounds. In each era few nodes are faulty.
+  -- Of what is played of era 0 the first locked configuration is the one that is stated, or none is
   -- locked if none is stated.
   pub record IsPlayed (attack : Attack) (lock : Option ℕ) : Type 0 where
     pub script : Script
     pub read : script_in machine shape first_line (attack_text machine attack) ≡ Ok script
+    pub says : script ≡ attack_script shape attack
     pub for : IsReadFor machine script
     pub borne : (j : ℕ) → j ≤ length script.eras → IsToleratedBy machine (faulty_of_era script j)
     pub is : lock ≡ lock_of machine script

@@ -2,8 +2,10 @@
 
 ghost use Rattle.std.specs.Prelude.{◌≡◌, map, string_bytes, IsErrOf};
 ghost use Rattle.program_words.specs.Conduct.{LeavesUnread};
+ghost use Rattle.attack.specs.AttacksWorked.{AttacksAreWorked};
 ghost use Rattle.attack.specs.Conduct.{DoesAsked, LeavesUnsaid, asked_of};
 ghost use Rattle.attack.specs.DrawsWorked.{DrawsAreWorked};
+ghost use Rattle.attack.specs.FreshLaws.{PlansAreAttacked};
 ghost use Rattle.attack.specs.ReadBack.{WrittenIsRead};
 
 use crate::calling::attack_input;
@@ -11,7 +13,7 @@ use crate::finding::Found;
 use crate::laws::written_is_read;
 use crate::reasons::AttackError;
 use crate::requests::{kind_words, request_of};
-use crate::search_laws::draws_are_worked;
+use crate::search_laws::{attacks_are_worked, draws_are_worked, fresh_attacks_are_read};
 use edge_io::{Sink, Source, put_all};
 use program_words::{Asked, ProgramError, asked_by};
 use std::alloc::Global;
@@ -49,15 +51,25 @@ pub fn answer<S: Source, K: Sink>(
     // At `ReadFault` the end of the source was not met.
     ensures unmet { IsErrOf result ProgramError.ReadFault → S.met source.new ≡ S.met source.old }
 
-    // What is written is read back, as the words `run` of `counterlab` and `pulselab` read it: as
-    // the plan, and the script of the attack after it.
+    // What is written is read back, by the grammars of the words `run` of `counterlab` and
+    // `pulselab`: as the plan, and the script of the attack after it.
     ensures read_back { WrittenIsRead }
+
+    // A search of at least one try finds an attack on every accepted plan: each attack that is
+    // drawn afresh is a script for it. So `NoScript` never comes.
+    ensures found { PlansAreAttacked }
 
     // The numbers that are drawn are those of SplitMix64: the first two of seed 0, as an example.
     ensures draws { DrawsAreWorked }
+
+    // Worked values: the first try of each kind on a small plan, letter by letter, and what small
+    // changes make of an attack.
+    ensures worked { AttacksAreWorked }
 {
     written_is_read();
     draws_are_worked();
+    attacks_are_worked();
+    fresh_attacks_are_read();
     match asked_by(words, request_of(words)) {
         Asked::Help => {
             put_all(sink, HELP)?;

@@ -1,6 +1,6 @@
 //! Reads a plan, and writes it with an attack on it.
 
-ghost use Rattle.std.specs.Prelude.{◌≡◌, ◌++◌, map, string_bytes, IsErrOf};
+ghost use Rattle.std.specs.Prelude.{◌≡◌, ◌≤◌, ◌++◌, map, string_bytes, IsErrOf};
 ghost use Rattle.texts.specs.Growth.{Puts};
 ghost use Rattle.attack.specs.Conduct.{Attacks, AttacksInput};
 ghost use Rattle.attack.specs.PlanTexts.{text_of};
@@ -10,6 +10,7 @@ use crate::plans::AnyPlan;
 use crate::reading::read_any_plan;
 use crate::reasons::AttackError;
 use crate::requests::{Numbers, named_kinds};
+use crate::search_laws::fresh_attacks_are_read;
 use edge_io::{Sink, Source, WriteFault, put_all, read_all};
 use program_words::ProgramError;
 use std::alloc::Global;
@@ -31,9 +32,11 @@ fn attack_text<K: Sink>(
     input: &[u8],
     sink: &mut K,
 ) -> Result<Found, AttackError>
+    requires { 1 ≤ numbers.runs }
     ensures { Attacks numbers (map string_bytes words.now) input.now result
         (K.told sink.old) (K.told sink.new) }
 {
+    fresh_attacks_are_read();
     let kinds = named_kinds(alloc, words)?;
     let plan = read_any_plan(alloc, input)?;
     let (text, found) = find(alloc, &plan, numbers, &kinds)?;
@@ -46,10 +49,10 @@ fn attack_text<K: Sink>(
 /// the attack.
 ///
 /// The whole source is read first, at most 2^20 bytes. `Levels` and `Pulses` come exactly if it is
-/// no plan, and `NoScript` if no attack that was tried is a script for it; `TooLong` only if the
-/// byte after the limit was there. `ReadFault` and `WriteFault` come only if the source, before its
-/// end, or the sink counted a fault, and `NoMemory` if memory was refused. Nothing was written
-/// then, but at `WriteFault` a prefix of the text. `Usage` never comes.
+/// no plan; `TooLong` only if the byte after the limit was there. `ReadFault` and `WriteFault` come
+/// only if the source, before its end, or the sink counted a fault, and `NoMemory` if memory was
+/// refused. Nothing was written then, but at `WriteFault` a prefix of the text. `Usage` never
+/// comes, and nor does `NoScript`: of at least one try some attack is a script for the plan.
 pub fn attack_input<S: Source, K: Sink>(
     alloc: Global,
     numbers: Numbers,
@@ -57,6 +60,7 @@ pub fn attack_input<S: Source, K: Sink>(
     source: &mut S,
     sink: &mut K,
 ) -> Result<Found, AttackError>
+    requires { 1 ≤ numbers.runs }
     ensures attacks { AttacksInput result numbers (map string_bytes words.now)
         (S.left source.old) (S.left source.new) (S.faults source.old) (S.faults source.new)
         (K.told sink.old) (K.told sink.new) }

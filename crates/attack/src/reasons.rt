@@ -15,12 +15,18 @@ pub enum AttackReason {
     Levels(PlanRefusal),
     /// The input begins as a pulse plan, and is none: its first line that fails.
     Pulses(PulsesRefusal),
-    /// None of the attacks that were tried is a script for the plan.
+    /// None of the attacks that were tried is a script for the plan. Of at least one try some is.
     NoScript,
 }
 
 /// Why an attack was not written, or not all of it.
 pub type AttackError = ProgramError<AttackReason>;
+
+/// The exit code if the input is no plan: that of the word `run` for it.
+const NO_PLAN: u8 = 1;
+
+/// The exit code if no attack is a script: that of the word `run` for a script that is refused.
+const NO_SCRIPT: u8 = 3;
 
 /// The word of a premise, as `counterlab` has it.
 fn premise_word(premise: Premise) -> &'static str
@@ -76,8 +82,8 @@ impl Reason for AttackReason {
 
     fn code(&self) -> u8 {
         match *self {
-            AttackReason::Levels(_) | AttackReason::Pulses(_) => 1,
-            AttackReason::NoScript => 3,
+            AttackReason::Levels(_) | AttackReason::Pulses(_) => NO_PLAN,
+            AttackReason::NoScript => NO_SCRIPT,
         }
     }
 

@@ -1,6 +1,8 @@
 //! The laws of searches and of draws. The functions are empty: their clauses are the laws.
 
+ghost use Rattle.attack.specs.AttacksWorked.{AttacksAreWorked};
 ghost use Rattle.attack.specs.DrawsWorked.{DrawsAreWorked};
+ghost use Rattle.attack.specs.FreshLaws.{FreshIsRead, SearchesFind, PlansAreAttacked};
 ghost use Rattle.attack.specs.SearchLaws.{SearchesFindBest};
 
 /// What a search finds is one of its tries, whose text is read as a script for the machine, with
@@ -13,4 +15,19 @@ pub fn searches_find_best()
 /// The first two numbers that are drawn with seed 0 are those of SplitMix64.
 pub fn draws_are_worked()
     ensures { DrawsAreWorked }
+{}
+
+/// The first try of each kind on a small plan has the text that is worked out, which is read as its
+/// script, and small changes make of an attack what is worked out.
+pub fn attacks_are_worked()
+    ensures { AttacksAreWorked }
+{}
+
+/// On a sound machine, whose states have digits that fit a line, each attack that is drawn afresh
+/// is read as its script, and a search of at least one try finds an attack; so it does on every
+/// accepted plan.
+pub fn fresh_attacks_are_read()
+    ensures read { FreshIsRead }
+    ensures found { SearchesFind }
+    ensures plans { PlansAreAttacked }
 {}

@@ -15,7 +15,9 @@ returns-in_err-plan g c =
 pub returns-in_err-text : goal.returns-in_err-text
 returns-in_err-text g c =
     not_found c.args.numbers (map string_bytes c.args.words.now) c.args.input.now _
-    c.in_ok-plan.plan _ _ _ c.in_ok-plan.ensures.read
+    c.in_ok-plan.plan c.deref.result.now _ _
+    (c.fresh_attacks_are_read.ensures.plans c.in_ok-plan.plan c.in_ok-plan.ensures.accepted
+    c.args.numbers c.deref.result.now c.requires)
     (c.deref.ensures.value ∙ c.in_ok-kinds.ensures) c.in_err-text.ensures
     c.from_residual-in_err-text.ensures.1
 

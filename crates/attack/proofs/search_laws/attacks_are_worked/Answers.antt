@@ -1,0 +1,5 @@
+use Rattle.attack.proofs.search_laws.attacks_are_worked.Goals as goal
+use Rattle.attack.proofs.AttacksWorked as law
+
+pub returns : goal.returns
+returns c = law.attacks_are_worked
