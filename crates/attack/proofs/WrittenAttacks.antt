@@ -53,7 +53,7 @@ plan_other first text (Err at) is = by_test text at (is_first first at.line) is
 module _ (numbers : Numbers) (words : List (List ℕ)) (input : List ℕ) where
   refused_error : (e : ProgramError AttackReason) (s : SinkState) → FailsAs (plan_answer input) e
       → Attacks numbers words input (Err e) s s
-  refused_error (error.Refused (reason.Levels refusal)) s fails = (fails, refl)
+  refused_error (error.Refused (reason.Boosting refusal)) s fails = (fails, refl)
   refused_error (error.Refused (reason.Pulses refusal)) s fails = (fails, refl)
   refused_error (error.Refused reason.NoScript) s fails =
       absurd (plan_other (first_unskipped 1 (lines_of input)) input (whole_pulses_of input) fails)
@@ -70,7 +70,7 @@ module _ (numbers : Numbers) (words : List (List ℕ)) (input : List ℕ) where
   not_found_error plan (error.Refused reason.NoScript) s found none =
       absurd (true≢false (sym found ∙ ap is_some none.is))
   not_found_error plan error.NoMemory s found none = refl
-  not_found_error plan (error.Refused (reason.Levels refusal)) s found none = absurd none
+  not_found_error plan (error.Refused (reason.Boosting refusal)) s found none = absurd none
   not_found_error plan (error.Refused (reason.Pulses refusal)) s found none = absurd none
   not_found_error plan error.Usage s found none = absurd none
   not_found_error plan error.ReadFault s found none = absurd none

@@ -18,7 +18,7 @@ use Rattle.attack.specs.declared.reasons.AttackReason.TheVariants as reason
 
 -- the refusal of a line of a plan of levels over blocks, and of one of a pulse plan
 abbrev pub refused_at : At Premise → AttackReason
-refused_at at = reason.Levels (record { line = at.line; premise = at.rule })
+refused_at at = reason.Boosting (record { line = at.line; premise = at.rule })
 
 abbrev pub pulses_refused_at : At LinePremise → AttackReason
 pulses_refused_at at = reason.Pulses (record { line = at.line; premise = at.rule })

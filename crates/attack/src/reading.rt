@@ -34,7 +34,7 @@ fn read_boosting(alloc: Global, text: &[u8]) -> Result<AnyPlan, AttackError>
             Ok(AnyPlan::Boosting(plan))
         }
         Err(PlanError::Refused(refusal)) => {
-            Err(ProgramError::Refused(AttackReason::Levels(refusal)))
+            Err(ProgramError::Refused(AttackReason::Boosting(refusal)))
         }
         Err(PlanError::NoMemory) => Err(ProgramError::NoMemory),
     }
@@ -44,7 +44,7 @@ fn read_boosting(alloc: Global, text: &[u8]) -> Result<AnyPlan, AttackError>
 /// over blocks.
 ///
 /// `Pulses` is the first line that fails of a text whose first line that counts is that of a pulse
-/// plan, and `Levels` that of any other text, each with its first premise.
+/// plan, and `Boosting` that of any other text, each with its first premise.
 pub fn read_any_plan(alloc: Global, text: &[u8]) -> Result<AnyPlan, AttackError>
     ensures read { IfOk result (λ plan. plan_answer text.now ≡ Ok plan) }
     ensures fails { IfErr result (FailsAs (plan_answer text.now)) }

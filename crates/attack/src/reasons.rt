@@ -12,7 +12,7 @@ use sync_types::Premise;
 #[derive(Clone, Copy, Debug, PartialEq, Eq)]
 pub enum AttackReason {
     /// The input is no plan: its first line that fails.
-    Levels(PlanRefusal),
+    Boosting(PlanRefusal),
     /// The input begins as a pulse plan, and is none: its first line that fails.
     Pulses(PulsesRefusal),
     /// None of the attacks that were tried is a script for the plan. Of at least one try some is.
@@ -82,14 +82,14 @@ impl Reason for AttackReason {
 
     fn code(&self) -> u8 {
         match *self {
-            AttackReason::Levels(_) | AttackReason::Pulses(_) => NO_PLAN,
+            AttackReason::Boosting(_) | AttackReason::Pulses(_) => NO_PLAN,
             AttackReason::NoScript => NO_SCRIPT,
         }
     }
 
     fn put_line<K: Sink>(&self, sink: &mut K) -> Result<(), WriteFault> {
         match *self {
-            AttackReason::Levels(refusal) => put_plan_line(sink, refusal),
+            AttackReason::Boosting(refusal) => put_plan_line(sink, refusal),
             AttackReason::Pulses(refusal) => pulse_texts::put_refusal(sink, refusal),
             AttackReason::NoScript => put_all(sink, b"no attack that was tried is a script\n"),
         }
