@@ -4,6 +4,7 @@ mod SaidInRange
 mod SaidRegisters
 mod SaidStates
 mod StateLines
+mod TurnedAgain
 mod TurnedBoth
 mod TurnedLines
 mod WorkedStates

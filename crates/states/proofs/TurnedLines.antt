@@ -4,7 +4,7 @@ use Rattle.std.proofs.Common.{Err, refl, sym, ap, ◌∙◌, append_assoc}
 use Rattle.state_codec.specs.Shapes.{Shape}
 use Rattle.texts.specs.Parts.{is_skipped}
 use Rattle.texts.specs.Words.{ended}
-use Rattle.states.specs.Puts.{behind}
+use Rattle.states.specs.Puts.{put_after}
 use Rattle.states.specs.Turned.{line_turned, onto_text, lines_turned, counting_lines}
 use Rattle.states.specs.Turned.{states_turned}
 use Rattle.states.specs.declared.faults.Fault.{Fault}
@@ -17,8 +17,8 @@ text_in (Err why) = []
 
 -- a line that was turned, and its newline, are before what is turned of the rest
 pub line_put : (out new : List ℕ) (line : ℕ) (turned : Result (List ℕ) Fault)
-    (rest : Result (List ℕ) StateReason) → behind out turned ≡ Ok new
-    → behind (new ++ 10 ∷ []) rest ≡ behind out (onto_text line turned rest)
+    (rest : Result (List ℕ) StateReason) → put_after out turned ≡ Ok new
+    → put_after (new ++ 10 ∷ []) rest ≡ put_after out (onto_text line turned rest)
 unfolding text_in
 line_put out new line (Err why) rest is = absurd cc
 line_put out new line (Ok text) (Err why) is = refl

@@ -1,5 +1,5 @@
--- That each line of a state is turned into the other one.
-use Rattle.std.specs.Prelude.{◌≡◌, ℕ, ◌<◌, ◌≤◌, nat_lt, ◌||◌, true, Ok}
+-- That each of the two lines of a state is turned into the other one.
+use Rattle.std.specs.Prelude.{◌≡◌, ℕ, ◌<◌, ◌≤◌, nat_lt, ◌||◌, true, List, Ok}
 use Rattle.sync_types.specs.States.{State}
 use Rattle.state_codec.specs.Shapes.{Fields, Shape, IsShape, shape_nodes, fields_at}
 use Rattle.state_codec.specs.Ranges.{InRange}
@@ -25,3 +25,10 @@ abbrev pub EachIsTurned : Type 0
 EachIsTurned = (shape : Shape) (v : ℕ) (state : State) → IsShape shape
     → shape_nodes shape ≤ 256 → v < shape_nodes shape → InRange (fields_at shape v) state
     → TurnsBoth shape v state
+
+-- A line that a line is turned into is one that is turned, if each node has a field.
+abbrev pub EachIsTurnedAgain : Type 0
+EachIsTurnedAgain = (shape : Shape) → IsShape shape → shape_nodes shape ≤ 256
+    → ((v : ℕ) → v < shape_nodes shape → HasField (fields_at shape v))
+    → (line other : List ℕ) → line_turned shape line ≡ Ok other
+    → (back : List ℕ) × (line_turned shape other ≡ Ok back)

@@ -5,13 +5,13 @@ use Rattle.states.specs.declared.faults.TurnError.{TurnError}
 use Rattle.states.specs.declared.faults.TurnError.TheVariants as error
 
 -- a text after another one, if it is no refusal
-abbrev pub behind : (old : List ℕ) → {R : Type 0} → Result (List ℕ) R → Result (List ℕ) R
-behind old (Ok text) = Ok (old ++ text)
-behind old (Err why) = Err why
+abbrev pub put_after : (old : List ℕ) → {R : Type 0} → Result (List ℕ) R → Result (List ℕ) R
+put_after old (Ok text) = Ok (old ++ text)
+put_after old (Err why) = Err why
 
 -- The text was put after the old one; or it is this refusal; or memory was refused.
 abbrev pub PutsTurned : {T : Type 0} → (turned : Result (List ℕ) Fault) → Result T TurnError
     → (old new : List ℕ) → Type 0
-PutsTurned turned (Ok value) old new = behind old turned ≡ Ok new
+PutsTurned turned (Ok value) old new = put_after old turned ≡ Ok new
 PutsTurned turned (Err (error.Refused why)) old new = turned ≡ Err why
 PutsTurned turned (Err error.NoMemory) old new = Unit {0}

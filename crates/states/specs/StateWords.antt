@@ -91,7 +91,7 @@ registers_said (modulus ∷ moduli) further words =
     (registers_said moduli said.further said.behind))
     (next_said modulus further words)
 
--- the words after this one
+-- the words after this one, if it is the first
 abbrev pub words_after : (key : List ℕ) → List (List ℕ) → Option (List (List ℕ))
 words_after key [] = None
 words_after key (word ∷ words) = if bytes_eq word key then Some words else None

@@ -28,15 +28,17 @@ abbrev pub said_turned : Fields → (v : ℕ) → Option State → Result (List 
 said_turned fields v None = Err fault.Fields
 said_turned fields v (Some state) = Ok (in_digits fields v state)
 
--- the words after `node V`, of which the first begins a state in words or is all digits
+-- whether a word begins a state in words
 abbrev pub is_key : List ℕ → Bool
 is_key word = bytes_eq word (codes "number") || bytes_eq word (codes "registers")
 
+-- digits, with no word after them
 abbrev pub alone_turned : Fields → (v : ℕ) → (digits : List ℕ) → (words : List (List ℕ))
     → Result (List ℕ) Fault
 alone_turned fields v digits [] = digits_turned fields v digits
 alone_turned fields v digits (word ∷ words) = Err fault.Form
 
+-- the words after the id: a state in words, or one word of digits
 abbrev pub rest_turned : Fields → (v : ℕ) → List (List ℕ) → Result (List ℕ) Fault
 rest_turned fields v [] = Err fault.Form
 rest_turned fields v (key ∷ words) =

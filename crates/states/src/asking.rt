@@ -3,11 +3,11 @@
 ghost use Rattle.std.specs.Prelude.{◌≡◌, map, string_bytes, IsErrOf};
 ghost use Rattle.program_words.specs.Conduct.{LeavesUnread};
 ghost use Rattle.states.specs.Conduct.{DoesAsked, asked_of};
-ghost use Rattle.states.specs.Laws.{EachIsTurned};
+ghost use Rattle.states.specs.Laws.{EachIsTurned, EachIsTurnedAgain};
 ghost use Rattle.states.specs.Worked.{StatesAreSpelled};
 
 use crate::calling::turn_input;
-use crate::laws::{lines_are_turned, states_are_spelled};
+use crate::laws::{lines_are_turned, states_are_spelled, turned_lines_are_turned};
 use crate::reasons::StateError;
 use crate::requests::request_of;
 use edge_io::{Sink, Source, put_all};
@@ -41,12 +41,15 @@ pub fn answer<S: Source, K: Sink>(
     ensures unread { LeavesUnread (asked_of (map string_bytes words.now)) source.old source.new }
     // At `ReadFault` the end of the source was not met.
     ensures unmet { IsErrOf result ProgramError.ReadFault → S.met source.new ≡ S.met source.old }
-    // Each of the two lines of a state is turned into the other one.
+    // Each of the two lines of a state is turned into the other one, if the node has a field, and
+    // what a line is turned into is a line that is turned, if each node has one.
     ensures both { EachIsTurned }
+    ensures again { EachIsTurnedAgain }
     // An input with its text, letter by letter, and one that is refused for each fault of a line.
     ensures worked { StatesAreSpelled }
 {
     lines_are_turned();
+    turned_lines_are_turned();
     states_are_spelled();
     match asked_by(words, request_of(words)) {
         Asked::Help => Ok(put_all(sink, HELP)?),

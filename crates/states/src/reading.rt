@@ -137,7 +137,7 @@ impl NodeShape<'_> {
     }
 
     /// The state with the number 0 whose registers the words say, if they are just those that the
-    /// node has.
+    /// node has; `first` is whether there is one.
     fn read_registers(
         &self,
         alloc: Global,
