@@ -6,8 +6,10 @@ use Rattle.state_codec.proofs.Lows.{depth_at}
 use Rattle.states.specs.StateTexts.{registers_text, had}
 use Rattle.states.proofs.PutRegisters.{none_put, one_put, not_zero, is_zero}
 use Rattle.states.proofs.shaped.NodeShape.push_registers.Goals as goal
-use Rattle.states.proofs.shaped.NodeShape.push_registers.Goals.{then-modulus-gt0+in_ok-push_text+in_ok-push_register}
-use Rattle.states.proofs.shaped.NodeShape.push_registers.Goals.{else-modulus-gt0}
+use Rattle.states.proofs.shaped.NodeShape.push_registers.Goals.{
+  then-modulus-gt0+in_ok-push_text+in_ok-push_register,
+  else-modulus-gt0,
+}
 
 pub loop-i-preserved : goal.loop-i-preserved
 loop-i-preserved c =
