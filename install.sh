@@ -4,8 +4,8 @@
 #     ./install.sh PREFIX        as in: ./install.sh ~/.local
 #
 # It takes the kit (`rt version`). What is not built yet is proved and built first, from nothing an
-# hour of one processor. The programs beside counterlab are installed as counterlab-NAME, since
-# other packages have programs of those names too.
+# hour and a quarter of one processor. The programs beside counterlab are installed as
+# counterlab-NAME, since other packages have programs of those names too.
 set -eu
 [ $# -eq 1 ] || { echo "usage: ./install.sh PREFIX" >&2; exit 2; }
 case $1 in
