@@ -4,11 +4,16 @@ use crate::traces::{Heard, Held, Note, Output, Register, Seen, Turn};
 use edge_io::{Words, number};
 use picture_parts::{next_is, next_number};
 use std::alloc::{AllocFailed, Global};
+use thiserror::Error;
 
 /// Why a line of a trace is not taken.
-#[derive(Clone, Copy)]
+#[derive(Clone, Copy, Debug, Error)]
 pub enum TraceFault {
+    /// It is no line of a trace.
+    #[error("no line of a trace")]
     Unwanted,
+    /// Memory was refused.
+    #[error("out of memory")]
     NoMemory,
 }
 
