@@ -12,13 +12,7 @@ use sync_types::Reg;
 /// not counted.
 ///
 /// Node and king are below the number of nodes, and `work` is for so many.
-fn agree_under(
-    values: &HeardRegister<'_>,
-    node: u32,
-    kind: u64,
-    king: u32,
-    work: &mut Work,
-) -> Reg
+fn agree_under(values: &HeardRegister<'_>, node: u32, kind: u64, king: u32, work: &mut Work) -> Reg
     requires kind { kind ≤ 2 }
     requires node { node < length values.now.states }
     requires king { king < length values.now.states }

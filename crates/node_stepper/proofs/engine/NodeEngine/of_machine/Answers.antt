@@ -1,6 +1,6 @@
 use Rattle.std.proofs.Common.{rules}
 use Rattle.node_stepper.proofs.Configurations.{begun_kept, begun_room}
-use Rattle.node_stepper.proofs.engine.NodeEngine.new.Goals as goal
+use Rattle.node_stepper.proofs.engine.NodeEngine.of_machine.Goals as goal
 
 pub invariant_of-result : goal.invariant_of-result
 invariant_of-result g c =
