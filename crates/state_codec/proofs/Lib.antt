@@ -19,3 +19,5 @@ pub mod Further
 pub mod Windows
 pub mod PackedFields
 pub mod Configurations
+pub mod Zeros
+pub mod Holding
