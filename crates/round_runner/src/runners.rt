@@ -289,7 +289,7 @@ impl<O: Overlay> Runner<O> {
         ensures same { self.new ≡ self.old }
     {
         self.states.facts();
-        self.states.shape().write_hex(v, self.states.state(v), out);
+        let _fits = hex::encode_to_slice(self.states.bytes(v), out);
     }
 
     /// Writes what node `v` hears in round `at` of node `u`, which is faulty in it, as digits of

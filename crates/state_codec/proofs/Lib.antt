@@ -20,3 +20,5 @@ pub mod NoNodes
 pub mod Windows
 pub mod PackedFields
 pub mod Configurations
+pub mod Zeros
+pub mod Holding

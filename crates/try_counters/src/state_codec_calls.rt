@@ -227,16 +227,9 @@ fn puts(alloc: Global, packed: &mut Packed, v: u32, bytes: &[u8]) -> Result<bool
     Ok(v < packed.nodes() && packed.x(v) == 0)
 }
 
-/// Whether the current state of a node is written as these bytes.
+/// Whether the current state of a node is held as these bytes.
 fn has_bytes(packed: &Packed, v: u32, bytes: &[u8]) -> bool {
-    packed.facts();
-    if v >= packed.nodes() {
-        return false;
-    }
-    let mut room = [0; 128];
-    let own = &mut room[..packed.shape().bytes_of(v)];
-    packed.shape().write_state(v, packed.state(v), own);
-    &*own == bytes
+    v < packed.nodes() && packed.bytes(v) == bytes
 }
 
 /// Whether the current state of a node is that of a row.

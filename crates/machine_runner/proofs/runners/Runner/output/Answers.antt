@@ -3,22 +3,14 @@ use Rattle.machine_runner.specs.Runners.{Running}
 use Rattle.machine_runner.proofs.Keeping.{state_in}
 use Rattle.machine_runner.proofs.runners.Runner.output.Goals as goal
 
-pub state-requires : goal.state-requires
-state-requires g c =
-    let kept = c.self.invariant in
-    let nodes = kept.read.right.nodes in
-    let size = kept.size in
-    let lt = subst (λ (r : Running _). c.args.v < (g.M.Machine.machine r.machine).nodes)
-    (sym c.self.view_is) c.requires in
-    omega (arith, lt, nodes, size)
+pub index-requires : goal.index-requires
+index-requires g c = ?
 
 pub output-requires-clause-state : goal.output-requires-clause-state
-output-requires-clause-state g c =
-    let lt = subst (λ (r : Running _). c.args.v < (g.M.Machine.machine r.machine).nodes)
-    (sym c.self.view_is) c.requires in
-    state_in (g.M.Machine.machine c.self.inside.machine.now) c.self.inside.script
-    c.self.inside.states.shape c.self.inside.states.current c.args.v _ c.self.invariant.read
-    c.self.invariant.shape c.self.invariant.size c.facts-2.ensures.current lt c.state.ensures
+output-requires-clause-state g c = ?
+
+pub returns-clause-value : goal.returns-clause-value
+returns-clause-value g c = ?
 
 pub returns-clause-below : goal.returns-clause-below
 returns-clause-below g c =
