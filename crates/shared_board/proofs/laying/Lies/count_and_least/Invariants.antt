@@ -1,6 +1,6 @@
 use Rattle.std.proofs.Common.{◌≡◌, ◌+◌, ◌++◌, map, take}
 use Rattle.sync_types.specs.States.{register_at}
-use Rattle.shared_board.proofs.laying.Lies.least.Given as goal
+use Rattle.shared_board.proofs.laying.Lies.count_and_least.Given as goal
 
 -- those of the lies so far stand after what was there
 abbrev pub invariant-loop-lie : goal.invariant-loop-lie

@@ -1,7 +1,7 @@
 use Rattle.std.proofs.Common.{ℕ, ◌<◌, ◌≤◌, ◌++◌, map, get_or, Some, None}
 use Rattle.counting.specs.Values.{count_of}
 use Rattle.construction.specs.Shown.{shown}
-use Rattle.shared_board.proofs.laying.Lies.most.Given as goal
+use Rattle.shared_board.proofs.laying.Lies.most_with.Given as goal
 
 -- no number of the lies so far has more than half of the places
 abbrev pub invariant-loop-lie : goal.invariant-loop-lie
