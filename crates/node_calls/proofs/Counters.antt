@@ -121,7 +121,7 @@ few_bits (Boosting plan) accepted sound v node =
       accepted_depth plan.base plan.levels accepted.levels,
     ))
 few_bits (Pulses plan) accepted sound v node =
-    let few : bits_in ((machine_of (Pulses plan)).fields v) ≤ 715 =
+    let few : bits_in ((machine_of (Pulses plan)).fields v) ≤ 464 =
     pulses_few_bits plan accepted v in
     omega (arith, few)
 

@@ -1,6 +1,6 @@
 -- A tree counts from its bound on, by induction: one half counts, and so the group does.
-use Rattle.std.proofs.Common.{◌≡◌, ◌⊎◌, ℕ, ◌+◌, ◌*◌, ◌<◌, ◌≤◌, max, Bool, false}
-use Rattle.std.proofs.Common.{Option, Some, None, IfSome, unwrap_or, refl, ap, ◌∙◌, subst, inl}
+use Rattle.std.proofs.Common.{◌≡◌, ◌⊎◌, ℕ, ◌+◌, ◌<◌, ◌≤◌, Bool, false}
+use Rattle.std.proofs.Common.{Option, Some, None, IfSome, unwrap_or, ap, ◌∙◌, subst, inl}
 use Rattle.std.proofs.Common.{inr, ⊎_elim, arith}
 use Rattle.std.proofs.Math.Nat.{le-max_left, le-max_right}
 use Rattle.std.proofs.lemmas.Bool.{cases_lt}
@@ -11,12 +11,12 @@ use Rattle.counting.proofs.Places.{one_fails}
 use Rattle.construction.specs.PhaseKing.{up}
 use Rattle.construction.specs.Steps.{state_of}
 use Rattle.phase_king.specs.Hearing.{AllLocked}
-use Rattle.pulse_plan.specs.Halves.{faults_of, instructions, left_period, right_period}
+use Rattle.pulse_plan.specs.Halves.{Halves, left_period, right_period, left_wait, right_wait}
 use Rattle.pulse_plan.specs.Level.{faults_in, HalfCounts, StaysLocked, OneHalfIsSound}
-use Rattle.pulse_plan.specs.Level.{PulsesSettle}
+use Rattle.pulse_plan.specs.Level.{HalvesSettle}
 use Rattle.pulse_plan.specs.Level.{LockedStaysLocked}
 use Rattle.pulse_plan.specs.Halvings.{Halving, One, Split, halving_nodes, halving_faults}
-use Rattle.pulse_plan.specs.Halvings.{halving_bound, halves_of, bound_over}
+use Rattle.pulse_plan.specs.Halvings.{halving_bound, halves_of}
 use Rattle.pulse_plan.specs.Registers.{inner}
 use Rattle.pulse_plan.specs.Steps.{shown_in}
 use Rattle.pulse_plan.specs.Runs.{fields_in, HasFields}
@@ -110,8 +110,8 @@ module _ (left right : Halving) (spares modulus : ℕ) (faulty : ℕ → Bool) (
     (few : places faulty (halving_nodes (Split left right spares))
     ≤ halving_faults (Split left right spares))
     (is : RunIn (Split left right spares) modulus faulty last run) where
-  abbrev f : ℕ
-  f = faults_of (halves_of left right spares)
+  abbrev halves : Halves
+  halves = halves_of left right spares
 
   -- the first registers of the nodes from a configuration on
   abbrev StaysFrom : ℕ → Type 0
@@ -119,76 +119,63 @@ module _ (left right : Halving) (spares modulus : ℕ) (faulty : ℕ → Bool) (
       StaysLocked (halving_nodes (Split left right spares)) (up modulus) faulty from last
       (λ t v. register_at 0 (run t v))
 
-  module _ (one_half : OneHalfIsSound) (settle : PulsesSettle) where
-    by_left : SettlesIn left (left_period f) → faults_in 0 (halving_nodes left) faulty
+  module _ (one_half : OneHalfIsSound) (settle : HalvesSettle) where
+    by_left : SettlesIn left (left_period halves) → faults_in 0 (halving_nodes left) faulty
         ≤ halving_faults left → (last < halving_bound left) ⊎ (halving_bound left ≤ last)
         → StaysFrom (halving_bound (Split left right spares))
     by_left settles sound (inl short) =
         none_left _ _ _ _ _ _
-        (let most = le-max_left (halving_bound left + 2 * left_period f)
-        (halving_bound right + 3 * right_period f) in omega arith)
+        (let most = le-max_left (halving_bound left + left_wait halves)
+        (halving_bound right + right_wait halves) in omega arith)
     by_left settles sound (inr long) =
         let in_half = left_run left right spares modulus faulty last run is in
-        let most = le-max_left (halving_bound left + 2 * left_period f)
-        (halving_bound right + 3 * right_period f) in
-        later _ _ _ (halving_bound left + 2 * left_period f + instructions f + 1) _ _ _
-        (omega arith)
-        ((settle (halves_of left right spares) (up modulus) faulty (is_halved left right spares) few
+        later _ _ _ (halving_bound left + left_wait halves) _ _ _
+        (le-max_left (halving_bound left + left_wait halves)
+        (halving_bound right + right_wait halves))
+        ((settle halves (up modulus) faulty (is_halved left right spares) few
         0 last (outputs left right spares modulus faulty last run is)
         (level_states left right spares modulus faulty last run is)
-        (level_states_step left right spares modulus faulty last run is 0) (halving_bound left)).0
-        (omega arith)
-        (half_counts left 0 (left_period f) (omega arith) faulty last (λ t v. inner (run t v))
+        (level_states_step left right spares modulus faulty last run is 0) (halving_bound left)
+        (omega arith)).0
+        (half_counts left 0 (left_period halves) (omega arith) faulty last (λ t v. inner (run t v))
         (halving_bound left) (omega arith) long sound in_half
         (settles (λ u. faulty (0 + u)) last (λ t u. inner (run t (0 + u))) sound in_half)
         (outputs left right spares modulus faulty last run is)
         (left_output left right spares modulus faulty last run is)))
 
-    -- the right half is taken from the time on when all have stepped for as many rounds as there
-    -- are instructions
-    by_right : SettlesIn right (right_period f)
+    by_right : SettlesIn right (right_period halves)
         → faults_in (halving_nodes left) (halving_nodes right) faulty ≤ halving_faults right
-        → (from : ℕ) → halving_bound right ≤ from → instructions f ≤ from
-        → from + 3 * right_period f + instructions f + 1 ≤ halving_bound (Split left right spares)
-        → (last < from) ⊎ (from ≤ last)
+        → (last < halving_bound right) ⊎ (halving_bound right ≤ last)
         → StaysFrom (halving_bound (Split left right spares))
-    by_right settles sound from after next_instruction within (inl short) =
-        none_left _ _ _ _ _ _ (omega arith)
-    by_right settles sound from after next_instruction within (inr long) =
+    by_right settles sound (inl short) =
+        none_left _ _ _ _ _ _
+        (let most = le-max_right (halving_bound left + left_wait halves)
+        (halving_bound right + right_wait halves) in omega arith)
+    by_right settles sound (inr long) =
         let n : ℕ = halving_nodes left in
         let in_half = right_run left right spares modulus faulty last run is in
-        later _ _ _ (from + 3 * right_period f + instructions f + 1) _ _ _ within
-        ((settle (halves_of left right spares) (up modulus) faulty (is_halved left right spares) few
+        later _ _ _ (halving_bound right + right_wait halves) _ _ _
+        (le-max_right (halving_bound left + left_wait halves)
+        (halving_bound right + right_wait halves))
+        ((settle halves (up modulus) faulty (is_halved left right spares) few
         0 last (outputs left right spares modulus faulty last run is)
         (level_states left right spares modulus faulty last run is)
-        (level_states_step left right spares modulus faulty last run is 0) from).1
-        (omega arith)
-        (half_counts right n (right_period f) (omega arith) faulty last (λ t v. inner (run t v))
-        from after long sound in_half
+        (level_states_step left right spares modulus faulty last run is 0) (halving_bound right)
+        (omega arith)).1
+        (half_counts right n (right_period halves) (omega arith) faulty last
+        (λ t v. inner (run t v)) (halving_bound right) (omega arith) long sound in_half
         (settles (λ u. faulty (n + u)) last (λ t u. inner (run t (n + u))) sound in_half)
         (outputs left right spares modulus faulty last run is)
         (right_output left right spares modulus faulty last run is)))
 
-    -- two periods of the left half are more than three of the right one and that
-    from_right : (l r from : ℕ) → from ≡ max r (instructions f)
-        → from + 3 * right_period f + instructions f + 1 ≤ bound_over f l r
-    from_right l r from e =
-        let one = le-max_left (l + 2 * left_period f) (r + 3 * right_period f) in
-        let two = le-max_right (l + 2 * left_period f) (r + 3 * right_period f) in
-        omega arith
-
     -- the registers are locked from the bound on
-    pub locked_over : SettlesIn left (left_period f) → SettlesIn right (right_period f)
+    pub locked_over : SettlesIn left (left_period halves)
+        → SettlesIn right (right_period halves)
         → StaysFrom (halving_bound (Split left right spares))
     locked_over settles_left settles_right = ⊎_elim
         (λ sound. by_left settles_left sound (cases_lt last (halving_bound left)))
-        (λ sound. by_right settles_right sound (max (halving_bound right) (instructions f))
-        (le-max_left (halving_bound right) (instructions f))
-        (le-max_right (halving_bound right) (instructions f))
-        (from_right (halving_bound left) (halving_bound right)
-        (max (halving_bound right) (instructions f)) refl)
-        (cases_lt last (max (halving_bound right) (instructions f))))
-        (one_half (halves_of left right spares) faulty (is_halved left right spares) few)
+        (λ sound. by_right settles_right sound (cases_lt last (halving_bound right)))
+        (one_half halves faulty (is_halved left right spares) few)
 
   -- and from any locked configuration on
   pub stays_over : LockedStaysLocked → (t value : ℕ)
@@ -204,10 +191,10 @@ module _ (left right : Halving) (spares modulus : ℕ) (faulty : ℕ → Bool) (
 
 -- ---- the tree
 
-module _ (one_half : OneHalfIsSound) (settle : PulsesSettle) where
+module _ (one_half : OneHalfIsSound) (settle : HalvesSettle) where
   split_counts : (left right : Halving) (spares modulus : ℕ)
-      → SettlesIn left (left_period (faults_of (halves_of left right spares)))
-      → SettlesIn right (right_period (faults_of (halves_of left right spares)))
+      → SettlesIn left (left_period (halves_of left right spares))
+      → SettlesIn right (right_period (halves_of left right spares))
       → SettlesIn (Split left right spares) modulus
   split_counts left right spares modulus settles_left settles_right faulty last run few is =
       let stays = locked_over left right spares modulus faulty last run few is one_half settle
@@ -221,5 +208,5 @@ module _ (one_half : OneHalfIsSound) (settle : PulsesSettle) where
   tree_settles One modulus = one_counts modulus
   tree_settles (Split left right spares) modulus =
       split_counts left right spares modulus
-      (tree_settles left (left_period (faults_of (halves_of left right spares))))
-      (tree_settles right (right_period (faults_of (halves_of left right spares))))
+      (tree_settles left (left_period (halves_of left right spares)))
+      (tree_settles right (right_period (halves_of left right spares)))

@@ -2,12 +2,12 @@
 use Rattle.std.proofs.Common.{◌+◌, ◌<◌, ◌≤◌, length, arith}
 use Rattle.sync_types.specs.States.{State}
 use Rattle.pulse_plan.specs.Groups.{PulseGroup, left_of, right_of}
-use Rattle.pulse_plan.proofs.Fitting.{four_before_end, left_end, right_end}
+use Rattle.pulse_plan.proofs.Fitting.{two_before_end, left_end, right_end}
 use Rattle.pulse_plan.specs.MachineGroups.{HasGroup}
 
-pub four_deep : (group : PulseGroup) (s : State) → 0 < group.faults → HasGroup group s
-    → group.register + 4 ≤ length s.registers
-four_deep group s some deep = omega (arith, four_before_end group some, deep)
+pub two_deep : (group : PulseGroup) (s : State) → 0 < group.faults → HasGroup group s
+    → group.register + 2 ≤ length s.registers
+two_deep group s some deep = omega (arith, two_before_end group some, deep)
 
 pub left_deep : (group : PulseGroup) (s : State) → 0 < group.faults → HasGroup group s
     → HasGroup (left_of group) s

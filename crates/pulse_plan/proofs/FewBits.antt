@@ -10,7 +10,7 @@ use Rattle.std.proofs.lemmas.List.Sums.{sum_by-cons, sum_by-append}
 use Rattle.construction.specs.Widths.{width}
 use Rattle.plan_numbers.proofs.WidthLaws.{width_most}
 use Rattle.state_codec.specs.Shapes.{Fields, register_bits, registers_bits, bits_in}
-use Rattle.pulse_plan.specs.Halves.{faults_of, instructions, left_period, right_period}
+use Rattle.pulse_plan.specs.Halves.{Halves, faults_of, left_period, right_period}
 use Rattle.pulse_plan.specs.Halvings.{Halving, One, Split, halving_nodes, halving_height}
 use Rattle.pulse_plan.specs.Halvings.{halving_of, halves_of}
 use Rattle.pulse_plan.specs.Steps.{halving_depth}
@@ -20,28 +20,23 @@ use Rattle.pulse_plan.specs.Plans.{PulseNumbers, IsAccepted, tree_of}
 use Rattle.pulse_plan.proofs.Trees.{taller}
 use Rattle.pulse_plan.proofs.Sound.{nodes_are}
 
--- ---- one register, and four of a level
+-- ---- one register, and two of a level
 
 register_most : (m k : ℕ) → k < 64 → m + 1 ≤ 2 ^ k → register_bits m ≤ k + 1
 register_most m k lt le =
     cond_both (m == 0) 0 (width (m + 1) + 1) (λ bits. bits ≤ k + 1) (λ e. omega arith)
     (λ e. omega (arith, width_most (m + 1) k lt le))
 
-level_most : (f modulus : ℕ) (rest : List ℕ) → modulus ≤ 2 ^ 40 → 3 * f < 256
-    → registers_bits (modulus ∷ instructions f ∷ left_period f ∷ 1 ∷ rest)
-    ≤ 75 + registers_bits rest
+level_most : (modulus period : ℕ) (rest : List ℕ) → modulus ≤ 2 ^ 40 → period < 1024
+    → registers_bits (modulus ∷ period ∷ rest) ≤ 53 + registers_bits rest
 unfolding registers_bits
-level_most f modulus rest most few =
+level_most modulus period rest most few =
     omega (
       arith,
-      sum_by-cons register_bits modulus (instructions f ∷ left_period f ∷ 1 ∷ rest),
-      sum_by-cons register_bits (instructions f) (left_period f ∷ 1 ∷ rest),
-      sum_by-cons register_bits (left_period f) (1 ∷ rest),
-      sum_by-cons register_bits 1 rest,
+      sum_by-cons register_bits modulus (period ∷ rest),
+      sum_by-cons register_bits period rest,
       register_most modulus 41 (omega arith) (omega arith),
-      register_most (instructions f) 10 (omega arith) (omega arith),
-      register_most (left_period f) 10 (omega arith) (omega arith),
-      register_most 1 10 (omega arith) (omega arith),
+      register_most period 10 (omega arith) (omega arith),
     )
 
 none_most : registers_bits [] ≡ 0
@@ -51,35 +46,36 @@ none_most = refl
 -- ---- the fields of a node
 
 bits_most : (tree : Halving) (modulus v : ℕ) → modulus ≤ 2 ^ 40 → halving_nodes tree ≤ 256
-    → bits_in (fields_in tree modulus v) ≤ 40 + 75 * halving_height tree
+    → bits_in (fields_in tree modulus v) ≤ 40 + 53 * halving_height tree
 bits_most One modulus v most few =
     omega (arith, width_most modulus 40 (omega arith) most, none_most)
 bits_most (Split left right spares) modulus v most few =
-    let f : ℕ = faults_of (halves_of left right spares) in
+    let halves : Halves = halves_of left right spares in
     let n : ℕ = halving_nodes left in
     let m : ℕ = halving_nodes right in
     let none : Fields = record { base = 1; moduli = [] } in
-    let in_left : Fields = fields_in left (left_period f) v in
-    let in_right : Fields = fields_in right (right_period f) (v - n) in
+    let in_left : Fields = fields_in left (left_period halves) v in
+    let in_right : Fields = fields_in right (right_period halves) (v - n) in
     let rest : Fields = cond (nat_lt v n) in_left (cond (nat_lt v (n + m)) in_right none) in
     let above : ℕ = max (halving_height left) (halving_height right) in
-    let few_faults : 3 * f < 256 = omega (arith, three_faults (Split left right spares)) in
-    let below : bits_in rest ≤ 40 + 75 * above =
+    let few_faults : 3 * faults_of halves < 256 =
+    omega (arith, three_faults (Split left right spares)) in
+    let below : bits_in rest ≤ 40 + 53 * above =
     cond_both (nat_lt v n) in_left (cond (nat_lt v (n + m)) in_right none)
-    (λ fields. bits_in fields ≤ 40 + 75 * above)
+    (λ fields. bits_in fields ≤ 40 + 53 * above)
     (λ e. omega (
       arith,
-      bits_most left (left_period f) v (omega arith) (omega arith),
+      bits_most left (left_period halves) v (omega arith) (omega arith),
       le-max_left (halving_height left) (halving_height right),
     ))
-    (λ e. cond_both (nat_lt v (n + m)) in_right none (λ fields. bits_in fields ≤ 40 + 75 * above)
+    (λ e. cond_both (nat_lt v (n + m)) in_right none (λ fields. bits_in fields ≤ 40 + 53 * above)
     (λ e. omega (
       arith,
-      bits_most right (right_period f) (v - n) (omega arith) (omega arith),
+      bits_most right (right_period halves) (v - n) (omega arith) (omega arith),
       le-max_right (halving_height left) (halving_height right),
     ))
     (λ e. omega (arith, width_most 1 40 (omega arith) (omega arith), none_most))) in
-    omega (arith, level_most f modulus rest.moduli most few_faults, below)
+    omega (arith, level_most modulus (left_period halves) rest.moduli most (omega arith), below)
 
 -- registers that the node lacks take none
 all_bits : (tree : Halving) (modulus v : ℕ)
@@ -96,11 +92,11 @@ all_bits tree modulus v =
 
 -- ---- a plan
 
-highest : halving_height (halving_of 85 0) ≡ 9
+highest : halving_height (halving_of 85 0) ≡ 8
 highest = refl
 
 pub few_bits : (plan : PulseNumbers) → IsAccepted plan → (v : ℕ)
-    → bits_in (all_fields (tree_of plan) plan.modulus v) ≤ 715
+    → bits_in (all_fields (tree_of plan) plan.modulus v) ≤ 464
 few_bits plan is v =
     let quorum = is.quorum in
     let few = is.most_nodes in

@@ -1,6 +1,6 @@
 -- A half lies in its group.
-use Rattle.std.proofs.Common.{ℕ, ◌+◌, ◌-◌, ◌*◌, ◌/◌, ◌<◌, ◌≤◌, refl, ap, arith}
-use Rattle.pulse_plan.specs.Halvings.{halving_height, halving_of}
+use Rattle.std.proofs.Common.{ℕ, ◌+◌, ◌-◌, ◌*◌, ◌<◌, ◌≤◌, refl, ap, arith}
+use Rattle.pulse_plan.specs.Halvings.{halving_height, halving_of, left_part, right_part}
 use Rattle.pulse_plan.specs.Groups.{PulseGroup, IsGroup, IsHalf, left_of, right_of, registers_end}
 use Rattle.pulse_plan.proofs.Halves.{half_tree}
 use Rattle.pulse_plan.proofs.Trees.{height_of, taller}
@@ -35,29 +35,29 @@ right_is group is some =
 
 -- ---- registers
 
--- a group that has halves has four registers more than its halves
-pub four_before_end : (group : PulseGroup) → 0 < group.faults
-    → group.register + 4 ≤ registers_end group
-four_before_end group some =
+-- a group that has halves has two registers more than its halves
+pub two_before_end : (group : PulseGroup) → 0 < group.faults
+    → group.register + 2 ≤ registers_end group
+two_before_end group some =
     omega (arith, height_of group.faults (group.nodes - (3 * group.faults + 1)) some)
 
 -- the half of so many faults ends no later
 half_end : (group : PulseGroup) (f : ℕ) → 0 < group.faults
-    → f ≤ group.faults - 1 - group.faults / 3
-    → group.register + 4 + 4 * halving_height (halving_of f (3 * f + 1 - (3 * f + 1)))
+    → f ≤ right_part group.faults
+    → group.register + 2 + 2 * halving_height (halving_of f (3 * f + 1 - (3 * f + 1)))
     ≤ registers_end group
 half_end group f some le =
     let height = height_of group.faults (group.nodes - (3 * group.faults + 1)) some in
-    let less = taller f (group.faults - 1 - group.faults / 3) 0 0 le in
+    let less = taller f (right_part group.faults) 0 0 le in
     omega (arith, height, less, ap halving_height (half_tree f))
 
 pub left_end : (group : PulseGroup) → 0 < group.faults
     → registers_end (left_of group) ≤ registers_end group
-left_end group some = half_end group (group.faults / 3) some (omega arith)
+left_end group some = half_end group (left_part group.faults) some (omega arith)
 
 pub right_end : (group : PulseGroup) → 0 < group.faults
     → registers_end (right_of group) ≤ registers_end group
-right_end group some = half_end group (group.faults - 1 - group.faults / 3) some (omega arith)
+right_end group some = half_end group (right_part group.faults) some (omega arith)
 
 -- ---- the half in which a node is
 

@@ -13,11 +13,11 @@ use Rattle.construction.specs.PhaseKing.{up}
 use Rattle.construction.specs.Steps.{state_of}
 use Rattle.counter_core.specs.Meanings.{cut}
 use Rattle.machines.specs.Laws.{IgnoresFurther}
-use Rattle.pulse_plan.specs.Halves.{faults_of, instructions, left_period, right_period}
+use Rattle.pulse_plan.specs.Halves.{Halves, left_period, right_period}
 use Rattle.pulse_plan.specs.LevelStates.{LevelState, level_state_after}
 use Rattle.pulse_plan.specs.Halvings.{Halving, One, Split, halving_nodes, halving_height}
 use Rattle.pulse_plan.specs.Halvings.{halves_of}
-use Rattle.pulse_plan.specs.Registers.{number_of, level_state_of, inner, with_level_state}
+use Rattle.pulse_plan.specs.Registers.{level_state_of, inner, with_level_state}
 use Rattle.pulse_plan.specs.Steps.{shown_in, half_of, new_level_state, step_in}
 use Rattle.pulse_plan.specs.Steps.{halving_depth, filled}
 use Rattle.pulse_plan.specs.Runs.{machine_of}
@@ -45,33 +45,24 @@ state_of_cut d (s ∷ group) (suc v) = state_of_cut d group v
 register_cut : (d i : ℕ) (s : State) → i < d → register_at i (cut d s) ≡ register_at i s
 register_cut d i s lt = get_or-take d s.registers i zero_register lt
 
--- four registers more
+-- two registers more
 abbrev more : ℕ → ℕ
-more d = suc (suc (suc (suc d)))
+more d = suc (suc d)
 
 inner_cut : (d : ℕ) (s : State) → inner (cut (more d) s) ≡ cut d (inner s)
 inner_cut d s =
-    let four : more d ≡ 4 + d = omega arith in
+    let two : more d ≡ 2 + d = omega arith in
     ap (λ (rs : List Reg). record { x = s.x; registers = rs })
-    (ap (λ k. drop 4 (take k s.registers)) four ∙ drop-take 4 d s.registers)
+    (ap (λ k. drop 2 (take k s.registers)) two ∙ drop-take 2 d s.registers)
 
-abbrev level_state_by : (f : ℕ) (king phases left right : Reg) → LevelState
-level_state_by f king phases left right = record {
-  register = king;
-  instruction = number_of (instructions f) phases.a;
-  begun_by_left = phases.d;
-  age = number_of (left_period f) left.a;
-  saw_left = left.d;
-  saw_right = right.d;
-}
+abbrev level_state_by : (king left : Reg) → LevelState
+level_state_by king left =
+    record { register = king; seen = unwrap_or left.a 0; trusted = left.d }
 
-level_state_cut : (f d : ℕ) (s : State) → level_state_of f (cut (more d) s) ≡ level_state_of f s
-level_state_cut f d s =
-    let t : State = cut (more d) s in
-    ap₂ (λ a b. level_state_by f a b (register_at 2 t) (register_at 3 t))
-    (register_cut (more d) 0 s (omega arith)) (register_cut (more d) 1 s (omega arith))
-    ∙ ap₂ (level_state_by f (register_at 0 s) (register_at 1 s))
-    (register_cut (more d) 2 s (omega arith)) (register_cut (more d) 3 s (omega arith))
+level_state_cut : (d : ℕ) (s : State) → level_state_of (cut (more d) s) ≡ level_state_of s
+level_state_cut d s =
+    ap₂ level_state_by (register_cut (more d) 0 s (omega arith))
+    (register_cut (more d) 1 s (omega arith))
 
 shown_cut : (tree : Halving) (d : ℕ) (s : State) → halving_depth tree ≤ d
     → shown_in tree (cut d s) ≡ shown_in tree s
@@ -111,23 +102,23 @@ new_cut : (left right : Halving) (spares modulus v d : ℕ) (group : List State)
     → new_level_state left right spares modulus v (map (cut (more d)) group)
     ≡ new_level_state left right spares modulus v group
 new_cut left right spares modulus v d group in_left in_right =
-    let f : ℕ = faults_of (halves_of left right spares) in
+    let halves : Halves = halves_of left right spares in
     let n : ℕ = halving_nodes left in
     let m : ℕ = halving_nodes right in
     let all : List State = map (cut (more d)) group in
-    let states : map (level_state_of f) all ≡ map (level_state_of f) group =
-    map_map (level_state_of f) (cut (more d)) group
-    ∙ map_same (λ s. level_state_of f (cut (more d) s)) (level_state_of f) (level_state_cut f d)
+    let states : map level_state_of all ≡ map level_state_of group =
+    map_map level_state_of (cut (more d)) group
+    ∙ map_same (λ s. level_state_of (cut (more d) s)) level_state_of (level_state_cut d)
     group in
-    let own : level_state_of f (state_of all v) ≡ level_state_of f (state_of group v) =
-    ap (level_state_of f) (state_of_cut (more d) group v)
-    ∙ level_state_cut f d (state_of group v) in
+    let own : level_state_of (state_of all v) ≡ level_state_of (state_of group v) =
+    ap level_state_of (state_of_cut (more d) group v)
+    ∙ level_state_cut d (state_of group v) in
     ap (λ s. level_by left right spares modulus s (map (shown_in left) (half_of 0 n all))
-    (map (shown_in right) (half_of n m all)) (map (level_state_of f) all)) own
-    ∙ (ap₂ (λ a b. level_by left right spares modulus (level_state_of f (state_of group v)) a b
-    (map (level_state_of f) all)) (outputs_cut left d 0 n group in_left)
+    (map (shown_in right) (half_of n m all)) (map level_state_of all)) own
+    ∙ (ap₂ (λ a b. level_by left right spares modulus (level_state_of (state_of group v)) a b
+    (map level_state_of all)) (outputs_cut left d 0 n group in_left)
     (outputs_cut right d n m group in_right)
-    ∙ ap (level_by left right spares modulus (level_state_of f (state_of group v))
+    ∙ ap (level_by left right spares modulus (level_state_of (state_of group v))
     (map (shown_in left) (half_of 0 n group)) (map (shown_in right) (half_of n m group))) states)
 
 step_cut : (tree : Halving) (modulus v d : ℕ) (group : List State) → halving_depth tree ≤ d
@@ -136,11 +127,8 @@ step_cut One modulus v d group deep =
     ap (λ (s : State). record { x = up modulus s.x; registers = [] }) (state_of_cut d group v)
 step_cut (Split left right spares) modulus v zero group deep = absurd (omega arith)
 step_cut (Split left right spares) modulus v (suc zero) group deep = absurd (omega arith)
-step_cut (Split left right spares) modulus v (suc (suc zero)) group deep = absurd (omega arith)
-step_cut (Split left right spares) modulus v (suc (suc (suc zero))) group deep =
-    absurd (omega arith)
-step_cut (Split left right spares) modulus v (suc (suc (suc (suc d)))) group deep =
-    let f : ℕ = faults_of (halves_of left right spares) in
+step_cut (Split left right spares) modulus v (suc (suc d)) group deep =
+    let halves : Halves = halves_of left right spares in
     let n : ℕ = halving_nodes left in
     let m : ℕ = halving_nodes right in
     let all : List State = map (cut (more d)) group in
@@ -151,15 +139,15 @@ step_cut (Split left right spares) modulus v (suc (suc (suc (suc d)))) group dee
     let new : List State → LevelState = new_level_state left right spares modulus v in
     let by : State → State → State = λ a b.
     cond (nat_lt v n) a (cond (nat_lt v (n + m)) b (zero_state 0)) in
-    let l : step_in left (left_period f) v (half_of 0 n all)
-    ≡ step_in left (left_period f) v (half_of 0 n group) =
-    ap (step_in left (left_period f) v) (half_cut d 0 n group)
-    ∙ step_cut left (left_period f) v d (half_of 0 n group) in_left in
-    let r : step_in right (right_period f) (v - n) (half_of n m all)
-    ≡ step_in right (right_period f) (v - n) (half_of n m group) =
-    ap (step_in right (right_period f) (v - n)) (half_cut d n m group)
-    ∙ step_cut right (right_period f) (v - n) d (half_of n m group) in_right in
-    ap₂ (λ p s. with_level_state f p s)
+    let l : step_in left (left_period halves) v (half_of 0 n all)
+    ≡ step_in left (left_period halves) v (half_of 0 n group) =
+    ap (step_in left (left_period halves) v) (half_cut d 0 n group)
+    ∙ step_cut left (left_period halves) v d (half_of 0 n group) in_left in
+    let r : step_in right (right_period halves) (v - n) (half_of n m all)
+    ≡ step_in right (right_period halves) (v - n) (half_of n m group) =
+    ap (step_in right (right_period halves) (v - n)) (half_cut d n m group)
+    ∙ step_cut right (right_period halves) (v - n) d (half_of n m group) in_right in
+    ap₂ (λ p s. with_level_state p s)
     (new_cut left right spares modulus v d group in_left in_right) (ap₂ by l r)
 
 pub ignores_further : (tree : Halving) (modulus : ℕ) → IgnoresFurther (machine_of tree modulus)

@@ -1,14 +1,14 @@
 -- The fields of a node in a group are those of its level, and those that it has in its half.
-use Rattle.std.proofs.Common.{◌≡◌, ℕ, zero, suc, ◌+◌, ◌-◌, ◌*◌, ◌/◌, ◌<◌, ◌≤◌, Bool, true, false}
+use Rattle.std.proofs.Common.{◌≡◌, ℕ, zero, suc, ◌+◌, ◌-◌, ◌*◌, ◌<◌, ◌≤◌, Bool, true, false}
 use Rattle.std.proofs.Common.{List, [], ◌∷◌, Option, Some, None, refl, sym, ap, ap₂, ◌∙◌, arith}
 use Rattle.std.specs.Prelude.{nat_lt, if◌then◌else◌, slice_get}
-use Rattle.pulse_plan.specs.Halves.{faults_of, instructions, left_period, right_period}
-use Rattle.pulse_plan.specs.Halvings.{Halving, halving_nodes, halving_of, halves_of}
+use Rattle.pulse_plan.specs.Halves.{Halves, left_period, right_period}
+use Rattle.pulse_plan.specs.Halvings.{Halving, halving_nodes, halving_of, left_part, right_part}
 use Rattle.pulse_plan.specs.Runs.{Fields, fields_in}
-use Rattle.pulse_plan.specs.Groups.{PulseGroup, IsGroup, left_of, right_of, half_in}
+use Rattle.pulse_plan.specs.Groups.{PulseGroup, IsGroup, left_of, right_of, half_in, sizes_of}
 use Rattle.pulse_plan.specs.Fields.{fields_by}
 use Rattle.pulse_plan.proofs.Trees.{split_of, nodes_of_half}
-use Rattle.pulse_plan.proofs.Halves.{left_tree, right_tree, half_tree, both_faults, halves_are}
+use Rattle.pulse_plan.proofs.Halves.{left_tree, right_tree, half_tree, halves_are}
 use Rattle.pulse_plan.proofs.Halves.{lt_shifted}
 
 -- no fields
@@ -20,18 +20,16 @@ abbrev pub fields_in_half : Option PulseGroup → (v : ℕ) → Fields
 fields_in_half None v = no_fields
 fields_in_half (Some half) v = fields_by half v
 
--- the four of a level are before
-abbrev pub with_level : (f modulus : ℕ) → Fields → Fields
-with_level f modulus below = record {
-  base = below.base;
-  moduli = modulus ∷ instructions f ∷ left_period f ∷ 1 ∷ below.moduli;
-}
+-- the two of a level are before
+abbrev pub with_level : Halves → (modulus : ℕ) → Fields → Fields
+with_level halves modulus below =
+    record { base = below.base; moduli = modulus ∷ left_period halves ∷ below.moduli }
 
-abbrev split_fields : (left right : Halving) (modulus u f n m : ℕ) → Fields
-split_fields left right modulus u f n m =
-    with_level f modulus
-    (if nat_lt u n then fields_in left (left_period f) u
-    else if nat_lt u (n + m) then fields_in right (right_period f) (u - n)
+abbrev split_fields : (left right : Halving) (halves : Halves) (modulus u n m : ℕ) → Fields
+split_fields left right halves modulus u n m =
+    with_level halves modulus
+    (if nat_lt u n then fields_in left (left_period halves) u
+    else if nat_lt u (n + m) then fields_in right (right_period halves) (u - n)
     else no_fields)
 
 half_fields : (half : PulseGroup) (tree : Halving) (modulus v w : ℕ) → tree ≡ halving_of half.faults
@@ -50,7 +48,8 @@ chosen false false left right v = refl
 
 pub fields_by_level : (group : PulseGroup) (v : ℕ) → IsGroup group → 0 < group.faults
     → group.first ≤ v
-    → fields_by group v ≡ with_level group.faults group.modulus (fields_in_half (half_in group v) v)
+    → fields_by group v
+    ≡ with_level (sizes_of group) group.modulus (fields_in_half (half_in group v) v)
 fields_by_level group v is some from =
     let f = group.faults in
     let left = left_tree f in
@@ -58,34 +57,31 @@ fields_by_level group v is some from =
     let spares = group.nodes - (3 * f + 1) in
     let u = v - group.first in
     let c = group.modulus in
-    let halves = halves_of left right spares in
-    let n = 3 * (f / 3) + 1 in
-    let m = 3 * (f - 1 - f / 3) + 1 in
-    let faults : faults_of halves ≡ f =
-    ap faults_of (halves_are group is some) ∙ both_faults f some in
-    let l = half_fields (left_of group) left (left_period f) v u (sym (half_tree (f / 3))) refl refl
-    in
-    let r = half_fields (right_of group) right (right_period f) v (u - n)
-    (sym (half_tree (f - 1 - f / 3))) refl (omega arith) in
+    let halves = sizes_of group in
+    let n = 3 * left_part f + 1 in
+    let m = 3 * right_part f + 1 in
+    let l = half_fields (left_of group) left (left_period halves) v u
+    (sym (half_tree (left_part f))) refl refl in
+    let r = half_fields (right_of group) right (right_period halves) v (u - n)
+    (sym (half_tree (right_part f))) refl (omega arith) in
     ap (λ t. fields_in t c u) (split_of f spares some)
-    ∙ (ap (λ g. split_fields left right c u g (halving_nodes left) (halving_nodes right)) faults
-    ∙ (ap₂ (λ j k. split_fields left right c u f j k) (nodes_of_half (f / 3))
-    (nodes_of_half (f - 1 - f / 3))
-    ∙ (ap₂ (λ s t. with_level f c (if nat_lt u n then s else if nat_lt u (n + m) then t
+    ∙ (ap (λ g. split_fields left right g c u (halving_nodes left) (halving_nodes right))
+    (halves_are group is some)
+    ∙ (ap₂ (λ j k. split_fields left right halves c u j k) (nodes_of_half (left_part f))
+    (nodes_of_half (right_part f))
+    ∙ (ap₂ (λ s t. with_level halves c (if nat_lt u n then s else if nat_lt u (n + m) then t
     else no_fields)) l r
-    ∙ (ap₂ (λ a b. with_level f c (if a then fields_by (left_of group) v
+    ∙ (ap₂ (λ a b. with_level halves c (if a then fields_by (left_of group) v
     else if b then fields_by (right_of group) v else no_fields))
     (lt_shifted group.first v n from)
     (lt_shifted group.first v (n + m) from ∙ ap (nat_lt v) (omega arith))
-    ∙ ap (with_level f c) (chosen (nat_lt v (right_of group).first)
+    ∙ ap (with_level halves c) (chosen (nat_lt v (right_of group).first)
     (nat_lt v ((right_of group).first + (right_of group).nodes)) (left_of group) (right_of group)
     v)))))
 
 -- a register of the half comes after those of the level
-pub after_four : (i a b c d : ℕ) (xs : List ℕ) → 4 ≤ i
-    → slice_get (a ∷ b ∷ c ∷ d ∷ xs) i ≡ slice_get xs (i - 4)
-after_four zero a b c d xs le = absurd (omega arith)
-after_four (suc zero) a b c d xs le = absurd (omega arith)
-after_four (suc (suc zero)) a b c d xs le = absurd (omega arith)
-after_four (suc (suc (suc zero))) a b c d xs le = absurd (omega arith)
-after_four (suc (suc (suc (suc i)))) a b c d xs le = ap (slice_get xs) (omega arith)
+pub after_two : (i a b : ℕ) (xs : List ℕ) → 2 ≤ i
+    → slice_get (a ∷ b ∷ xs) i ≡ slice_get xs (i - 2)
+after_two zero a b xs le = absurd (omega arith)
+after_two (suc zero) a b xs le = absurd (omega arith)
+after_two (suc (suc i)) a b xs le = ap (slice_get xs) (omega arith)

@@ -8,7 +8,7 @@ use Rattle.std.proofs.lemmas.List.{get_or-drop, length-take-le}
 use Rattle.sync_types.specs.declared.states.Reg.{Reg}
 use Rattle.sync_types.specs.States.{State, zero_state}
 use Rattle.construction.specs.Steps.{state_of}
-use Rattle.pulse_plan.specs.Halves.{faults_of, instructions, left_period, right_period}
+use Rattle.pulse_plan.specs.Halves.{Halves, left_period, right_period}
 use Rattle.pulse_plan.specs.Halvings.{Halving, Split, halving_nodes, halves_of}
 use Rattle.pulse_plan.specs.Registers.{inner}
 use Rattle.pulse_plan.specs.Steps.{half_of, new_level_state, step_in}
@@ -35,9 +35,9 @@ state_in_half first m u group room lt =
 -- ---- a step in a half
 
 module _ (left right : Halving) (spares : ℕ) where
-  -- how many faults the group tolerates, and the nodes of its halves
-  abbrev f : ℕ
-  f = faults_of (halves_of left right spares)
+  -- the sizes of the halves
+  abbrev halves : Halves
+  halves = halves_of left right spares
 
   abbrev n : ℕ
   n = halving_nodes left
@@ -52,69 +52,70 @@ module _ (left right : Halving) (spares : ℕ) where
   -- the state of a node of the left half, in it
   in_left : (modulus u : ℕ) (group : List State) (further : List Reg) → u < n
       → inner (followed (step_in (Split left right spares) modulus (0 + u) group) further)
-      ≡ followed (step_in left (left_period f) u (half_of 0 n group)) further
+      ≡ followed (step_in left (left_period halves) u (half_of 0 n group)) further
   in_left modulus u group further lt =
       let e : 0 + u ≡ u = omega arith in
       let in_right : State =
-      cond (nat_lt u (n + m)) (step_in right (right_period f) (u - n) (half_of n m group))
+      cond (nat_lt u (n + m)) (step_in right (right_period halves) (u - n) (half_of n m group))
       (zero_state 0) in
       ap (λ v. inner (followed (step_in (Split left right spares) modulus v group) further)) e
-      ∙ (inner_back f (new_level_state left right spares modulus u group)
-      (cond (nat_lt u n) (step_in left (left_period f) u (half_of 0 n group)) in_right) further
-      ∙ ap (λ b. followed (cond b (step_in left (left_period f) u (half_of 0 n group)) in_right)
-      further) (lt-ltb u n lt))
+      ∙ (inner_back (new_level_state left right spares modulus u group)
+      (cond (nat_lt u n) (step_in left (left_period halves) u (half_of 0 n group)) in_right) further
+      ∙ ap (λ b.
+      followed (cond b (step_in left (left_period halves) u (half_of 0 n group)) in_right) further)
+      (lt-ltb u n lt))
 
   -- and of the right half
   in_right : (modulus u : ℕ) (group : List State) (further : List Reg) → u < m
       → inner (followed (step_in (Split left right spares) modulus (n + u) group) further)
-      ≡ followed (step_in right (right_period f) u (half_of n m group)) further
+      ≡ followed (step_in right (right_period halves) u (half_of n m group)) further
   in_right modulus u group further lt =
       let v : ℕ = n + u in
       let e : n + u - n ≡ u = omega arith in
-      let left_state : State = step_in left (left_period f) v (half_of 0 n group) in
-      let right_state : State = step_in right (right_period f) (v - n) (half_of n m group) in
-      inner_back f (new_level_state left right spares modulus v group)
+      let left_state : State = step_in left (left_period halves) v (half_of 0 n group) in
+      let right_state : State = step_in right (right_period halves) (v - n) (half_of n m group) in
+      inner_back (new_level_state left right spares modulus v group)
       (cond (nat_lt v n) left_state (cond (nat_lt v (n + m)) right_state (zero_state 0))) further
       ∙ (ap (λ b. followed
       (cond b left_state (cond (nat_lt v (n + m)) right_state (zero_state 0))) further)
       (le-ltb v n (omega arith))
       ∙ (ap (λ b. followed (cond b right_state (zero_state 0)) further)
       (lt-ltb v (n + m) (omega arith))
-      ∙ ap (λ w. followed (step_in right (right_period f) w (half_of n m group)) further) e))
+      ∙ ap (λ w. followed (step_in right (right_period halves) w (half_of n m group)) further) e))
 
   -- the fields of a node of the left half, in it
   left_fields : (modulus u : ℕ) (state : State) → u < n
       → HasFields (fields_in (Split left right spares) modulus (0 + u)) state
-      → HasFields (fields_in left (left_period f) u) (inner state)
+      → HasFields (fields_in left (left_period halves) u) (inner state)
   left_fields modulus u state lt has =
       let e : 0 + u ≡ u = omega arith in
       let others : Fields =
-      cond (nat_lt u (n + m)) (fields_in right (right_period f) (u - n)) none in
-      subst (λ b. HasFields (cond b (fields_in left (left_period f) u) others) (inner state))
+      cond (nat_lt u (n + m)) (fields_in right (right_period halves) (u - n)) none in
+      subst (λ b. HasFields (cond b (fields_in left (left_period halves) u) others) (inner state))
       (lt-ltb u n lt)
-      (has_inner modulus (instructions f) (left_period f) 1
-      (cond (nat_lt u n) (fields_in left (left_period f) u) others) state
+      (has_inner modulus (left_period halves)
+      (cond (nat_lt u n) (fields_in left (left_period halves) u) others) state
       (subst (λ v. HasFields (fields_in (Split left right spares) modulus v) state) e has))
 
   -- and of the right half
   right_fields : (modulus u : ℕ) (state : State) → u < m
       → HasFields (fields_in (Split left right spares) modulus (n + u)) state
-      → HasFields (fields_in right (right_period f) u) (inner state)
+      → HasFields (fields_in right (right_period halves) u) (inner state)
   right_fields modulus u state lt has =
       let v : ℕ = n + u in
       let e : n + u - n ≡ u = omega arith in
-      let here : Fields = fields_in left (left_period f) v in
-      let there : Fields = fields_in right (right_period f) (v - n) in
-      subst (λ w. HasFields (fields_in right (right_period f) w) (inner state)) e
+      let here : Fields = fields_in left (left_period halves) v in
+      let there : Fields = fields_in right (right_period halves) (v - n) in
+      subst (λ w. HasFields (fields_in right (right_period halves) w) (inner state)) e
       (subst (λ b. HasFields (cond b there none) (inner state)) (lt-ltb v (n + m) (omega arith))
       (subst (λ b. HasFields (cond b here (cond (nat_lt v (n + m)) there none)) (inner state))
       (le-ltb v n (omega arith))
-      (has_inner modulus (instructions f) (left_period f) 1
+      (has_inner modulus (left_period halves)
       (cond (nat_lt v n) here (cond (nat_lt v (n + m)) there none)) state has)))
 
   module _ (modulus : ℕ) (faulty : ℕ → Bool) (last : ℕ) (run : ℕ → ℕ → State)
       (is : RunIn (Split left right spares) modulus faulty last run) where
-    pub left_run : RunIn left (left_period f) (λ u. faulty (0 + u)) last
+    pub left_run : RunIn left (left_period halves) (λ u. faulty (0 + u)) last
         (λ t u. inner (run t (0 + u)))
     left_run = record {
       fields = λ t u hi lt ok.
@@ -131,7 +132,7 @@ module _ (left right : Halving) (spares : ℕ) where
           };
     }
 
-    pub right_run : RunIn right (right_period f) (λ u. faulty (n + u)) last
+    pub right_run : RunIn right (right_period halves) (λ u. faulty (n + u)) last
         (λ t u. inner (run t (n + u)))
     right_run = record {
       fields = λ t u hi lt ok.

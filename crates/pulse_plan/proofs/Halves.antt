@@ -1,10 +1,10 @@
 -- The numbers of the halves of a group.
-use Rattle.std.proofs.Common.{◌≡◌, ℕ, ◌+◌, ◌-◌, ◌*◌, ◌/◌, ◌<◌, ◌≤◌, sym, ap, ◌∙◌, ⊎_elim, arith}
+use Rattle.std.proofs.Common.{◌≡◌, ℕ, ◌+◌, ◌-◌, ◌*◌, ◌<◌, ◌≤◌, sym, ap, ◌∙◌, ⊎_elim, arith}
 use Rattle.std.specs.Prelude.{nat_lt}
 use Rattle.std.proofs.lemmas.Bool.{cases_lt, lt-ltb, le-ltb}
 use Rattle.pulse_plan.specs.Halvings.{Halving, halving_nodes, halving_faults, halving_of}
-use Rattle.pulse_plan.specs.Halvings.{halves_of}
-use Rattle.pulse_plan.proofs.Numbers.{faults_of_halving}
+use Rattle.pulse_plan.specs.Halvings.{halves_of, left_part, right_part}
+use Rattle.pulse_plan.proofs.Numbers.{both_parts, faults_of_halving}
 use Rattle.pulse_plan.specs.Groups.{PulseGroup, IsGroup, sizes_of}
 use Rattle.pulse_plan.proofs.Trees.{nodes_of_half}
 
@@ -15,15 +15,12 @@ no_spares n = omega arith
 pub half_tree : (f : ℕ) → halving_of f (3 * f + 1 - (3 * f + 1)) ≡ halving_of f 0
 half_tree f = ap (halving_of f) (no_spares (3 * f + 1))
 
-pub both_faults : (f : ℕ) → 0 < f → f / 3 + (f - 1 - f / 3) + 1 ≡ f
-both_faults f some = omega arith
-
 -- the trees of the halves
 abbrev pub left_tree : ℕ → Halving
-left_tree f = halving_of (f / 3) 0
+left_tree f = halving_of (left_part f) 0
 
 abbrev pub right_tree : ℕ → Halving
-right_tree f = halving_of (f - 1 - f / 3) 0
+right_tree f = halving_of (right_part f) 0
 
 pub halves_are : (group : PulseGroup) → IsGroup group → 0 < group.faults
     → halves_of (left_tree group.faults) (right_tree group.faults)
@@ -31,12 +28,12 @@ pub halves_are : (group : PulseGroup) → IsGroup group → 0 < group.faults
     ≡ sizes_of group
 halves_are group is some =
     let f = group.faults in
-    let left = nodes_of_half (f / 3) in
-    let right = nodes_of_half (f - 1 - f / 3) in
+    let left = nodes_of_half (left_part f) in
+    let right = nodes_of_half (right_part f) in
     let quorum = is.quorum in
     let nodes : halving_nodes (left_tree f) + halving_nodes (right_tree f) + 2
     + (group.nodes - (3 * f + 1)) ≡ group.nodes =
-    omega (arith, left, right, both_faults f some, quorum) in
+    omega (arith, left, right, both_parts f some, quorum) in
     ap (λ n. record {
       left_nodes = n;
       left_faults = halving_faults (left_tree f);
@@ -46,34 +43,34 @@ halves_are group is some =
           + (group.nodes - (3 * f + 1));
     }) left
     ∙ (ap (λ n. record {
-      left_nodes = 3 * (f / 3) + 1;
+      left_nodes = 3 * left_part f + 1;
       left_faults = n;
       right_nodes = halving_nodes (right_tree f);
       right_faults = halving_faults (right_tree f);
       nodes = halving_nodes (left_tree f) + halving_nodes (right_tree f) + 2
           + (group.nodes - (3 * f + 1));
-    }) (faults_of_halving (f / 3) 0)
+    }) (faults_of_halving (left_part f) 0)
     ∙ (ap (λ n. record {
-      left_nodes = 3 * (f / 3) + 1;
-      left_faults = f / 3;
+      left_nodes = 3 * left_part f + 1;
+      left_faults = left_part f;
       right_nodes = n;
       right_faults = halving_faults (right_tree f);
       nodes = halving_nodes (left_tree f) + halving_nodes (right_tree f) + 2
           + (group.nodes - (3 * f + 1));
     }) right
     ∙ (ap (λ n. record {
-      left_nodes = 3 * (f / 3) + 1;
-      left_faults = f / 3;
-      right_nodes = 3 * (f - 1 - f / 3) + 1;
+      left_nodes = 3 * left_part f + 1;
+      left_faults = left_part f;
+      right_nodes = 3 * right_part f + 1;
       right_faults = n;
       nodes = halving_nodes (left_tree f) + halving_nodes (right_tree f) + 2
           + (group.nodes - (3 * f + 1));
-    }) (faults_of_halving (f - 1 - f / 3) 0)
+    }) (faults_of_halving (right_part f) 0)
     ∙ ap (λ n. record {
-      left_nodes = 3 * (f / 3) + 1;
-      left_faults = f / 3;
-      right_nodes = 3 * (f - 1 - f / 3) + 1;
-      right_faults = f - 1 - f / 3;
+      left_nodes = 3 * left_part f + 1;
+      left_faults = left_part f;
+      right_nodes = 3 * right_part f + 1;
+      right_faults = right_part f;
       nodes = n;
     }) nodes)))
 

@@ -1,100 +1,73 @@
--- What a node finds in what it hears: the grades of a pulse, and whether a half shows 0.
-use Rattle.std.proofs.Common.{◌≡◌, ℕ, ◌+◌, ◌-◌, ◌*◌, ◌<◌, ◌≤◌, Bool, true, false, not, ◌&&◌}
-use Rattle.std.proofs.Common.{List, get_or, count_by, eqb, sym, ap, ◌∙◌, inl, inr}
-use Rattle.std.proofs.Common.{⊎_elim, arith}
-use Rattle.std.proofs.lemmas.Bool.{cases_Bool, cases_eq, false≢true, eqb-true, eq-eqb, leb-true}
-use Rattle.std.proofs.lemmas.Bool.{le-leb, and_parts, and_from, not-true, true_from_ne_false}
+-- What a node finds in what it hears: which number is backed, and what a half shows.
+use Rattle.std.proofs.Common.{◌≡◌, ℕ, ◌+◌, ◌-◌, ◌*◌, ◌%◌, ◌<◌, ◌≤◌, Bool, true, false, List}
+use Rattle.std.proofs.Common.{get_or, eqb, leb, sym, ap, ◌∙◌, inl, inr, ⊎_elim, arith}
+use Rattle.std.proofs.Math.Nat.{mod-eq_of_lt}
+use Rattle.std.proofs.lemmas.Bool.{cases_Bool, cases_eq, eqb-true, eq-eqb, leb-true, le-leb}
+use Rattle.std.proofs.lemmas.Bool.{true_from_ne_false}
 use Rattle.counting.specs.Places.{places}
-use Rattle.counting.proofs.Places.{cover, cover_all, fewer, some_place, count_by_places}
-use Rattle.pulse_plan.specs.LevelStates.{LevelState, zero_level_state, sees, echoed, backed}
+use Rattle.counting.proofs.Places.{cover_all, overlap, count_by_places}
+use Rattle.counting.proofs.Majority.{majority_or_zero_of_most}
+use Rattle.pulse_plan.specs.LevelStates.{LevelState, zero_level_state, saw, shown}
 use Rattle.pulse_plan.specs.Hearing.{HearsOutputs, HearsLevelStates}
 
 module _ (n f : ℕ) (faulty : ℕ → Bool) (quorum : 3 * f < n) (few : places faulty n ≤ f)
-    (says : LevelState → Bool) (states : ℕ → LevelState) where
-  abbrev says_at : List LevelState → ℕ → Bool
-  says_at heard i = says (get_or heard i zero_level_state)
+    (states : ℕ → LevelState) where
+  abbrev seen_at : List LevelState → ℕ → ℕ
+  seen_at heard i = let state = get_or heard i zero_level_state in state.seen
 
-  in_places : (heard : List LevelState) → HearsLevelStates n faulty states heard
-      → count_by says heard ≡ places (says_at heard) n
-  in_places heard h = count_by_places says heard zero_level_state
-      ∙ ap (places (says_at heard)) h.size
+  in_places : (x : ℕ) (heard : List LevelState) → HearsLevelStates n faulty states heard
+      → saw x heard ≡ places (λ i. eqb x (seen_at heard i)) n
+  in_places x heard h =
+      count_by_places (λ (p : LevelState). eqb x p.seen) heard zero_level_state
+      ∙ ap (places (λ i. eqb x (seen_at heard i))) h.size
 
-  -- what is backed at one node is echoed at each
-  pub graded : (one other : List LevelState) → HearsLevelStates n faulty states one
-      → HearsLevelStates n faulty states other → backed n f (count_by says one) ≡ true
-      → echoed n f (count_by says other) ≡ true
-  graded one other h k back = le-leb (n - 2 * f) (count_by says other) (omega (
-    arith,
-    leb-true (n - f) (count_by says one) back,
-    in_places one h,
-    in_places other k,
-    cover (says_at one) faulty (says_at other) n
-        (λ i lt p. ⊎_elim inl (λ ok. inr (ap says (k.honest i lt ok ∙ sym (h.honest i lt ok)) ∙ p))
-        (cases_Bool (faulty i))),
-  ))
+  is_seen : (heard : List LevelState) → HearsLevelStates n faulty states heard → (i : ℕ) → i < n
+      → faulty i ≡ false → seen_at heard i ≡ (states i).seen
+  is_seen heard h i lt ok = ap (λ (p : LevelState). p.seen) (h.honest i lt ok)
 
-  -- what is echoed some correct node says
-  pub source : (heard : List LevelState) → HearsLevelStates n faulty states heard
-      → echoed n f (count_by says heard) ≡ true
-      → (w : ℕ) × (w < n) × (faulty w ≡ false) × (says (states w) ≡ true)
-  source heard h echo = ⊎_elim
-      (λ s. let e = and_parts (not (faulty s.0)) (says_at heard s.0) s.2 in
-      let ok = not-true (faulty s.0) e.0 in
-      (s.0, s.1, ok, ap says (sym (h.honest s.0 s.1 ok)) ∙ e.1))
-      (λ s. absurd (omega (
-        arith,
-        leb-true (n - 2 * f) (count_by says heard) echo,
-        in_places heard h,
-        fewer (says_at heard) faulty n
-            (λ i lt p. true_from_ne_false (faulty i)
-            (λ ok. false≢true (sym (s i lt)
-            ∙ and_from (not (faulty i)) (says_at heard i) (ap not ok) p))),
-      )))
-      (some_place (λ i. not (faulty i) && says_at heard i) n)
-
-  -- what all correct nodes say is backed
-  pub full : (heard : List LevelState) → HearsLevelStates n faulty states heard
-      → ((w : ℕ) → w < n → faulty w ≡ false → says (states w) ≡ true)
-      → backed n f (count_by says heard) ≡ true
-  full heard h all = le-leb (n - f) (count_by says heard) (omega (
-    arith,
-    in_places heard h,
-    cover_all faulty (says_at heard) n
-        (λ i lt. ⊎_elim inl (λ ok. inr (ap says (h.honest i lt ok) ∙ all i lt ok))
-        (cases_Bool (faulty i))),
-  ))
-
-module _ (first n f : ℕ) (faulty : ℕ → Bool) (quorum : 3 * f < n)
-    (few : places (λ i. faulty (first + i)) n ≤ f) (outputs : ℕ → ℕ) (heard : List ℕ)
-    (h : HearsOutputs first n faulty outputs heard) (output : ℕ)
-    (common : (u : ℕ) → u < n → faulty (first + u) ≡ false → outputs (first + u) ≡ output) where
-  abbrev shows_at : ℕ → Bool
-  shows_at i = eqb 0 (get_or heard i 0)
-
-  shown : count_by (eqb 0) heard ≡ places shows_at n
-  shown = count_by_places (eqb 0) heard 0 ∙ ap (places shows_at) h.size
-
-  -- if a sound half shows 0, each node sees it
-  pub sees_zero : output ≡ 0 → sees n f heard ≡ true
-  sees_zero e = le-leb (n - f) (count_by (eqb 0) heard) (omega (
-    arith,
-    shown,
-    cover_all (λ i. faulty (first + i)) shows_at n
-        (λ i lt. ⊎_elim inl
-        (λ ok. inr (eq-eqb 0 (get_or heard i 0) (sym (h.honest i lt ok ∙ common i lt ok ∙ e))))
-        (cases_Bool (faulty (first + i)))),
-  ))
-
-  -- and if it does not, none does
-  pub sees_no_other : sees n f heard ≡ true → output ≡ 0
-  sees_no_other e = ⊎_elim (λ z. z)
+  -- what is backed at two nodes is one number
+  pub one_backed : (x y : ℕ) (one other : List LevelState)
+      → HearsLevelStates n faulty states one → HearsLevelStates n faulty states other
+      → leb (n - f) (saw x one) ≡ true → leb (n - f) (saw y other) ≡ true → x ≡ y
+  one_backed x y one other h k a b = ⊎_elim (λ e. e)
       (λ ne. absurd (omega (
         arith,
-        leb-true (n - f) (count_by (eqb 0) heard) e,
-        shown,
-        fewer shows_at (λ i. faulty (first + i)) n
-            (λ i lt p. true_from_ne_false (faulty (first + i))
-            (λ ok. ne (sym (h.honest i lt ok ∙ common i lt ok)
-            ∙ sym (eqb-true 0 (get_or heard i 0) p)))),
+        leb-true (n - f) (saw x one) a,
+        leb-true (n - f) (saw y other) b,
+        in_places x one h,
+        in_places y other k,
+        overlap (λ i. eqb x (seen_at one i)) (λ i. eqb y (seen_at other i)) faulty n
+            (λ i lt p q. true_from_ne_false (faulty i) (λ ok. ne
+            (eqb-true x (seen_at one i) p
+            ∙ (is_seen one h i lt ok
+            ∙ sym (eqb-true y (seen_at other i) q ∙ is_seen other k i lt ok))))),
       )))
-      (cases_eq output 0)
+      (cases_eq x y)
+
+  -- what all correct nodes saw is backed
+  pub all_back : (x : ℕ) (heard : List LevelState) → HearsLevelStates n faulty states heard
+      → ((w : ℕ) → w < n → faulty w ≡ false → (states w).seen ≡ x)
+      → leb (n - f) (saw x heard) ≡ true
+  all_back x heard h all = le-leb (n - f) (saw x heard) (omega (
+    arith,
+    in_places x heard h,
+    cover_all faulty (λ i. eqb x (seen_at heard i)) n
+        (λ i lt. ⊎_elim inl
+        (λ ok. inr (eq-eqb x (seen_at heard i) (sym (is_seen heard h i lt ok ∙ all i lt ok))))
+        (cases_Bool (faulty i))),
+  ))
+
+-- what a half shows that tolerates its faults and has one output
+pub is_shown : (first n f period : ℕ) (faulty : ℕ → Bool) → 3 * f < n
+    → places (λ i. faulty (first + i)) n ≤ f → (outputs : ℕ → ℕ) (heard : List ℕ)
+    → HearsOutputs first n faulty outputs heard → (output : ℕ) → output < period
+    → ((u : ℕ) → u < n → faulty (first + u) ≡ false → outputs (first + u) ≡ output)
+    → shown period heard ≡ output
+is_shown first n f period faulty quorum few outputs heard h output below common =
+    let size = h.size in
+    let odd : ℕ → Bool = λ i. faulty (first + i) in
+    let most : 2 * places odd n < n = omega arith in
+    ap (λ x. x % period) (majority_or_zero_of_most heard odd output
+    (omega (arith, ap (places odd) size, most))
+    (λ i lt ok. h.honest i (omega arith) ok ∙ common i (omega arith) ok))
+    ∙ mod-eq_of_lt below

@@ -1,110 +1,91 @@
 -- Worked values of a level state's step, by computation: four nodes that tolerate one fault, with
 -- halves of one node each.
-use Rattle.std.proofs.Common.{◌≡◌, ℕ, List, [], ◌∷◌, replicate, Some, true, false, refl}
-use Rattle.sync_types.specs.declared.states.Reg.{Reg}
+use Rattle.std.proofs.Common.{◌≡◌, ℕ, Bool, List, [], ◌∷◌, Some, true, false, refl}
 use Rattle.construction.specs.PhaseKing.{up}
-use Rattle.pulse_plan.specs.Halves.{Halves, faults_of, quiet, instructions, left_period}
-use Rattle.pulse_plan.specs.Halves.{right_period}
-use Rattle.pulse_plan.specs.LevelStates.{LevelState, level_state_after, fires_left}
-use Rattle.pulse_plan.specs.LevelStates.{fires_right}
+use Rattle.pulse_plan.specs.Halves.{Halves, faults_of, right_period, right_share, left_share}
+use Rattle.pulse_plan.specs.Halves.{left_period, left_wait, phases, right_wait}
+use Rattle.pulse_plan.specs.LevelStates.{LevelState, level_state_after, shown}
+
+-- the faults, then the shares and the periods, then how long it takes
+numbers : Halves → List ℕ
+numbers halves =
+    faults_of halves ∷ right_share halves ∷ left_share halves ∷ left_period halves
+    ∷ right_period halves ∷ left_wait halves ∷ phases halves ∷ right_wait halves ∷ []
 
 abbrev four : Halves
 four = record { left_nodes = 1; left_faults = 0; right_nodes = 1; right_faults = 0; nodes = 4 }
 
-one_fault : faults_of four ≡ 1
-one_fault = refl
+of_four : numbers four ≡ 1 ∷ 5 ∷ 3 ∷ 8 ∷ 3 ∷ 16 ∷ 3 ∷ 11 ∷ []
+unfolding numbers
+of_four = refl
 
-five_quiet : quiet 1 ≡ 5
-five_quiet = refl
+abbrev seven : Halves
+seven = record { left_nodes = 1; left_faults = 0; right_nodes = 4; right_faults = 1; nodes = 7 }
 
-six_instructions : instructions 1 ≡ 6
-six_instructions = refl
+of_seven : numbers seven ≡ 2 ∷ 8 ∷ 3 ∷ 11 ∷ 6 ∷ 22 ∷ 2 ∷ 14 ∷ []
+unfolding numbers
+of_seven = refl
 
-left_counts_by : left_period 1 ≡ 17
-left_counts_by = refl
+-- what a half of three nodes shows that counts modulo 8
+two_of_three : shown 8 (6 ∷ 1 ∷ 6 ∷ []) ≡ 6
+two_of_three = refl
 
-right_counts_by : right_period 1 ≡ 6
-right_counts_by = refl
+no_two : shown 8 (6 ∷ 1 ∷ 5 ∷ []) ≡ 0
+no_two = refl
 
-abbrev finite : ℕ → Reg
-finite a = record { a = Some a; d = false }
+too_much : shown 8 (14 ∷ 1 ∷ 14 ∷ []) ≡ 6
+too_much = refl
 
--- instruction 2 of those that the left half began, its pulse six rounds ago
-abbrev resting : LevelState
-resting = record {
-  register = finite 7;
-  instruction = 2;
-  begun_by_left = true;
-  age = 6;
-  saw_left = false;
-  saw_right = false;
-}
+-- a level state with this value
+abbrev has : (value seen : ℕ) (trusted : Bool) → LevelState
+has value seen trusted =
+    record { register = record { a = Some value; d = false }; seen = seen; trusted = trusted }
 
-abbrev step : (own : LevelState) (left right : ℕ) → List LevelState → LevelState
-step own left right states = level_state_after four (up 10) own (left ∷ []) (right ∷ []) states
+abbrev locked : (value seen : ℕ) (trusted : Bool) → LevelState
+locked value seen trusted =
+    record { register = record { a = Some value; d = true }; seen = seen; trusted = trusted }
 
--- nothing is heard of pulses: age and instruction go on, and kind 2 takes the king's value
-king_of_instruction_two : step resting 3 4 (replicate 4 resting)
-    ≡ record resting { register = record { a = Some 8; d = true }; instruction = 3; age = 7 }
-king_of_instruction_two = refl
+-- node 3, the last one, goes on; the halves show these
+abbrev step : (left right : ℕ) → (own one two three : LevelState) → LevelState
+step left right own one two three =
+    level_state_after four (up 10) own (left ∷ []) (right ∷ []) (one ∷ two ∷ three ∷ own ∷ [])
 
--- the left half shows 0
-sees_left : step resting 0 4 (replicate 4 resting)
-    ≡ record resting {
-      register = record { a = Some 8; d = true };
-      instruction = 3;
-      age = 7;
-      saw_left = true;
-    }
-sees_left = refl
+-- in its share the left half is followed: 7 is its instruction 2, which takes the value of its king
+follows_left : step 0 2 (has 7 7 true) (has 1 7 true) (has 2 7 true) (has 3 7 true)
+    ≡ locked 2 0 false
+follows_left = refl
 
--- if the node waits, it stays so, and so does the greatest age
-abbrev waiting : LevelState
-waiting = record resting { instruction = 6; begun_by_left = false; age = 17 }
+-- before its share, the right half, which shows instruction 2, under a king of its own
+share_of_right : step 5 2 (has 7 4 true) (has 1 4 true) (has 2 4 true) (has 3 4 true)
+    ≡ locked 3 5 true
+share_of_right = refl
 
-greatest_stay : step waiting 3 4 (replicate 4 waiting) ≡ record waiting { register = finite 8 }
-greatest_stay = refl
+-- and so it is without trust
+without_trust : step 8 2 (has 7 7 false) (has 1 7 true) (has 2 7 true) (has 3 7 true)
+    ≡ locked 3 0 false
+without_trust = refl
 
--- whoever says so, of four: two echo a pulse, and three back it
-abbrev says : LevelState → LevelState
-says level_state = record level_state { saw_left = true }
+-- three of four back what was seen, the node itself among them, and two do not
+three_back : step 5 2 (has 7 4 true) (has 1 0 true) (has 2 4 false) (has 3 4 false)
+    ≡ locked 3 5 true
+three_back = refl
 
-two_echo : step waiting 3 4 (says waiting ∷ says waiting ∷ waiting ∷ waiting ∷ [])
-    ≡ record waiting { register = finite 8; age = 1 }
-two_echo = refl
+two_do_not : step 5 2 (has 7 4 true) (has 1 0 true) (has 2 0 true) (has 3 4 true)
+    ≡ locked 3 5 false
+two_do_not = refl
 
-one_does_not : step waiting 3 4 (says waiting ∷ waiting ∷ waiting ∷ waiting ∷ [])
-    ≡ record waiting { register = finite 8 }
-one_does_not = refl
+two_do_not_follow : step 7 2 (has 7 6 true) (has 1 0 true) (has 2 0 true) (has 3 6 true)
+    ≡ locked 3 7 false
+two_do_not_follow = refl
 
--- one that is backed, and old enough, fires
-three_fire : step waiting 3 4 (says waiting ∷ says waiting ∷ says waiting ∷ waiting ∷ [])
-    ≡ record waiting { register = finite 8; instruction = 0; begun_by_left = true; age = 1 }
-three_fire = refl
+-- trust begins with 0
+begins : step 1 2 (has 7 0 false) (has 1 0 false) (has 2 0 false) (has 3 0 false) ≡ locked 3 1 true
+begins = refl
 
--- one that comes early doesn't
-early_does_not_fire : fires_left four (record waiting { age = 16 })
-    (says waiting ∷ says waiting ∷ says waiting ∷ waiting ∷ []) ≡ false
-early_does_not_fire = refl
+begins_with_no_other : step 2 2 (has 7 1 false) (has 1 1 true) (has 2 1 true) (has 3 1 true)
+    ≡ locked 3 2 false
+begins_with_no_other = refl
 
--- the right half fires, whatever the age
-abbrev says_right : LevelState → LevelState
-says_right level_state = record level_state { saw_right = true }
-
-right_fires : step waiting 3 4
-    (says_right waiting ∷ says_right waiting ∷ says_right waiting ∷ waiting ∷ [])
-    ≡ record waiting { register = finite 8; instruction = 0 }
-right_fires = refl
-
--- but not in phases that the left half began, up to the last instruction but one
-busy_does_not_fire : fires_right four (record resting { instruction = 4 })
-    (says_right waiting ∷ says_right waiting ∷ says_right waiting ∷ waiting ∷ []) ≡ false
-busy_does_not_fire = refl
-
-last_instruction_fires : fires_right four (record resting { instruction = 5 })
-    (says_right waiting ∷ says_right waiting ∷ says_right waiting ∷ waiting ∷ []) ≡ true
-last_instruction_fires = refl
-
-its_own_instructions_fire : fires_right four (record resting { begun_by_left = false })
-    (says_right waiting ∷ says_right waiting ∷ says_right waiting ∷ waiting ∷ []) ≡ true
-its_own_instructions_fire = refl
+-- and ends where the left half does not go on
+ends : step 6 2 (has 7 4 true) (has 1 4 true) (has 2 4 true) (has 3 4 true) ≡ locked 3 6 false
+ends = refl

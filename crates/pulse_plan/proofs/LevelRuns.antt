@@ -7,14 +7,13 @@ use Rattle.std.proofs.lemmas.List.{length-map, get_or-map}
 use Rattle.sync_types.specs.States.{State, zero_state}
 use Rattle.construction.specs.PhaseKing.{up}
 use Rattle.construction.specs.Steps.{state_of}
-use Rattle.pulse_plan.specs.Halves.{Halves, faults_of, left_period, right_period}
+use Rattle.pulse_plan.specs.Halves.{Halves, left_period, right_period}
 use Rattle.pulse_plan.specs.LevelStates.{LevelState, zero_level_state, level_state_after}
 use Rattle.pulse_plan.specs.Hearing.{HearsOutputs, LevelStatesStep}
 use Rattle.pulse_plan.specs.Halvings.{Halving, Split, halving_nodes, halves_of}
 use Rattle.pulse_plan.specs.Registers.{level_state_of, inner}
 use Rattle.pulse_plan.specs.Steps.{shown_in, half_of, new_level_state, step_in}
 use Rattle.pulse_plan.proofs.LevelStates.{level_state_back}
-use Rattle.pulse_plan.proofs.Ranges.{next_is_level_state}
 use Rattle.pulse_plan.proofs.Places.{RunIn}
 use Rattle.pulse_plan.proofs.HalfRuns.{length-half_of, state_in_half}
 
@@ -40,12 +39,12 @@ hears_half half first faulty old outputs heard room out honest =
 
 module _ (left right : Halving) (spares modulus : ℕ) (faulty : ℕ → Bool) (last : ℕ)
     (run : ℕ → ℕ → State) (is : RunIn (Split left right spares) modulus faulty last run) where
-  abbrev f : ℕ
-  f = faults_of (halves_of left right spares)
+  abbrev halves : Halves
+  halves = halves_of left right spares
 
   -- the level states of the nodes
   abbrev pub level_states : ℕ → ℕ → LevelState
-  level_states t v = level_state_of f (run t v)
+  level_states t v = level_state_of (run t v)
 
   -- and what those of the halves show in them
   abbrev pub outputs : ℕ → ℕ → ℕ
@@ -72,17 +71,16 @@ module _ (left right : Halving) (spares modulus : ℕ) (faulty : ℕ → Bool) (
   level_states_step t = λ r v lo hi lt ok.
       let n : ℕ = halving_nodes left in
       let m : ℕ = halving_nodes right in
-      let halves : Halves = halves_of left right spares in
       let s = is.steps r v hi lt ok in
       let size = s.size in
       let level_state : LevelState = new_level_state left right spares modulus v s.heard in
       let rest : State =
-      cond (nat_lt v n) (step_in left (left_period f) v (half_of 0 n s.heard))
-      (cond (nat_lt v (n + m)) (step_in right (right_period f) (v - n) (half_of n m s.heard))
+      cond (nat_lt v n) (step_in left (left_period halves) v (half_of 0 n s.heard))
+      (cond (nat_lt v (n + m)) (step_in right (right_period halves) (v - n) (half_of n m s.heard))
       (zero_state 0)) in
       let heard_left : List ℕ = map (shown_in left) (half_of 0 n s.heard) in
       let heard_right : List ℕ = map (shown_in right) (half_of n m s.heard) in
-      let heard_level_states : List LevelState = map (level_state_of f) s.heard in record {
+      let heard_level_states : List LevelState = map level_state_of s.heard in record {
         heard = record { left = heard_left; right = heard_right; states = heard_level_states };
         hears = record {
           left = hears_half left 0 faulty (run r) (outputs r) s.heard (omega arith)
@@ -90,19 +88,16 @@ module _ (left right : Halving) (spares modulus : ℕ) (faulty : ℕ → Bool) (
           right = hears_half right n faulty (run r) (outputs r) s.heard (omega arith)
               (right_output r) (λ u ult uok. s.honest (n + u) (omega arith) uok);
           group = record {
-            size = length-map s.heard (level_state_of f) ∙ size;
+            size = length-map s.heard level_state_of ∙ size;
             honest = λ u ult uok.
-                get_or-map (level_state_of f) s.heard u (zero_state 0) zero_level_state
+                get_or-map level_state_of s.heard u (zero_state 0) zero_level_state
                 (omega arith)
-                ∙ ap (level_state_of f) (s.honest u ult uok);
+                ∙ ap level_state_of (s.honest u ult uok);
           };
         };
-        step = ap (level_state_of f) s.step
-            ∙ (level_state_back f level_state rest s.further
-            (next_is_level_state halves (up modulus) (level_state_of f (state_of s.heard v))
-            heard_left
-            heard_right heard_level_states)
-            ∙ ap (λ own. level_state_after halves (up modulus) (level_state_of f own) heard_left
+        step = ap level_state_of s.step
+            ∙ (level_state_back level_state rest s.further
+            ∙ ap (λ own. level_state_after halves (up modulus) (level_state_of own) heard_left
             heard_right
             heard_level_states) (s.honest v lt ok));
       }

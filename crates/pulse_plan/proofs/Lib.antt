@@ -12,14 +12,13 @@ pub mod LevelStates
 pub mod Ranges
 pub mod TreeExamples
 pub mod Heard
+pub mod Correct
+pub mod Trust
+pub mod Outputs
 pub mod Locked
-pub mod Apart
-pub mod Pulses
 pub mod Windows
 pub mod KingPhases
 pub mod Rounds
-pub mod Origins
-pub mod Harms
 pub mod Settles
 pub mod LevelExamples
 pub mod Places
@@ -41,3 +40,4 @@ pub mod GroupSizes
 pub mod Most
 pub mod Written
 pub mod Examples
+pub mod Lead

@@ -1,12 +1,12 @@
 -- No node of a tree has more bits, and one has so many.
 use Rattle.std.proofs.Common.{◌≡◌, ℕ, zero, suc, ◌+◌, ◌-◌, ◌*◌, ◌<◌, ◌≤◌, Bool, true, false, max}
-use Rattle.std.proofs.Common.{[], ◌∷◌, refl, ap}
-use Rattle.std.proofs.Common.{sym, ◌∙◌, subst, inl, inr, arith}
-use Rattle.std.specs.Prelude.{nat_lt, if◌then◌else◌, sum_by}
+use Rattle.std.proofs.Common.{◌∷◌, refl, ap}
+use Rattle.std.proofs.Common.{◌∙◌, subst, inl, inr, arith}
+use Rattle.std.specs.Prelude.{nat_lt, if◌then◌else◌}
 use Rattle.std.proofs.lemmas.Bool.{cases_lt, lt-ltb, le-ltb, ltb-true, ltb-false}
 use Rattle.std.proofs.lemmas.List.Sums.{sum_by-cons}
 use Rattle.construction.specs.Widths.{width}
-use Rattle.pulse_plan.specs.Halves.{faults_of, instructions, left_period, right_period}
+use Rattle.pulse_plan.specs.Halves.{Halves, left_period, right_period}
 use Rattle.pulse_plan.specs.Halvings.{Halving, One, Split, halving_nodes, halving_of}
 use Rattle.pulse_plan.specs.Halvings.{halves_of}
 use Rattle.pulse_plan.specs.Runs.{Fields, fields_in}
@@ -21,21 +21,18 @@ width_one : width 1 ≡ 0
 unfolding width
 width_one = refl
 
-with_level_bits : (f c : ℕ) (below : Fields)
-    → fields_bits (with_level f c below) ≡ level_bits f c + fields_bits below
-with_level_bits f c below =
-    let ms = below.moduli in
+with_level_bits : (halves : Halves) (c : ℕ) (below : Fields)
+    → fields_bits (with_level halves c below) ≡ level_bits halves c + fields_bits below
+with_level_bits halves c below =
     omega (
       arith,
-      sum_by-cons register_bits c (instructions f ∷ left_period f ∷ 1 ∷ ms),
-      sum_by-cons register_bits (instructions f) (left_period f ∷ 1 ∷ ms),
-      sum_by-cons register_bits (left_period f) (1 ∷ ms),
-      sum_by-cons register_bits 1 ms,
+      sum_by-cons register_bits c (left_period halves ∷ below.moduli),
+      sum_by-cons register_bits (left_period halves) below.moduli,
     )
 
 module _ (left right : Halving) (spares c : ℕ) where
-  abbrev f : ℕ
-  f = faults_of (halves_of left right spares)
+  abbrev halves : Halves
+  halves = halves_of left right spares
 
   abbrev n : ℕ
   n = halving_nodes left
@@ -48,22 +45,23 @@ module _ (left right : Halving) (spares c : ℕ) where
 
   abbrev below_by : (v : ℕ) (first second : Bool) → Fields
   below_by v first second =
-      if first then fields_in left (left_period f) v
-      else if second then fields_in right (right_period f) (v - n)
+      if first then fields_in left (left_period halves) v
+      else if second then fields_in right (right_period halves) (v - n)
       else no_fields
 
   abbrev below_at : (v : ℕ) → Fields
   below_at v = below_by v (nat_lt v n) (nat_lt v (n + m))
 
-  bits_at : (v : ℕ) → fields_bits (fields_in Tree c v) ≡ level_bits f c + fields_bits (below_at v)
-  bits_at v = with_level_bits f c (below_at v)
+  bits_at : (v : ℕ)
+      → fields_bits (fields_in Tree c v) ≡ level_bits halves c + fields_bits (below_at v)
+  bits_at v = with_level_bits halves c (below_at v)
 
-  module _ (most_left : IsMost (λ v. fields_bits (fields_in left (left_period f) v)) n
-      (most_bits left (left_period f)))
-      (most_right : IsMost (λ v. fields_bits (fields_in right (right_period f) v)) m
-      (most_bits right (right_period f))) where
+  module _ (most_left : IsMost (λ v. fields_bits (fields_in left (left_period halves) v)) n
+      (most_bits left (left_period halves)))
+      (most_right : IsMost (λ v. fields_bits (fields_in right (right_period halves) v)) m
+      (most_bits right (right_period halves))) where
     abbrev most : ℕ
-    most = max (most_bits left (left_period f)) (most_bits right (right_period f))
+    most = max (most_bits left (left_period halves)) (most_bits right (right_period halves))
 
     below_most : (v : ℕ) (first second : Bool) → nat_lt v n ≡ first → nat_lt v (n + m) ≡ second
         → fields_bits (below_by v first second) ≤ most
@@ -81,20 +79,21 @@ module _ (left right : Halving) (spares c : ℕ) where
         omega (arith, bits_at v, fits)
 
     -- a node of the left half
-    at_left : (v : ℕ) → v < n → below_at v ≡ fields_in left (left_period f) v
+    at_left : (v : ℕ) → v < n → below_at v ≡ fields_in left (left_period halves) v
     at_left v lt = ap (λ b. below_by v b (nat_lt v (n + m))) (lt-ltb v n lt)
 
-    at_right : (v : ℕ) → v < m → below_at (n + v) ≡ fields_in right (right_period f) v
+    at_right : (v : ℕ) → v < m → below_at (n + v) ≡ fields_in right (right_period halves) v
     at_right v lt =
         let place : n + v - n ≡ v = omega arith in
         ap (λ b. below_by (n + v) b (nat_lt (n + v) (n + m))) (le-ltb (n + v) n (omega arith))
         ∙ ap (λ b. below_by (n + v) false b) (lt-ltb (n + v) (n + m) (omega (arith, lt)))
-        ∙ ap (fields_in right (right_period f)) place
+        ∙ ap (fields_in right (right_period halves)) place
 
     most_split : IsMost (λ v. fields_bits (fields_in Tree c v)) (halving_nodes Tree)
         (most_bits Tree c)
     most_split =
-        elim (cases_lt (most_bits left (left_period f)) (most_bits right (right_period f))) [
+        elim
+        (cases_lt (most_bits left (left_period halves)) (most_bits right (right_period halves))) [
           | inl lt ↦
               let v = most_right.place in
               let inside = most_right.inside in
@@ -128,8 +127,9 @@ most_in One c = record {
   reached = omega arith;
 }
 most_in (Split left right spares) c =
-    let f = faults_of (halves_of left right spares) in
-    most_split left right spares c (most_in left (left_period f)) (most_in right (right_period f))
+    let halves = halves_of left right spares in
+    most_split left right spares c (most_in left (left_period halves))
+    (most_in right (right_period halves))
 
 nodes_by : (n f : ℕ) → 3 * f < n → (f ≡ 0 → n ≡ 1)
     → halving_nodes (halving_of f (n - (3 * f + 1))) ≡ n

@@ -1,12 +1,13 @@
 -- The numbers of trees: they have more than three nodes for each fault, and those that plans have
 -- are as small and as fast as is said.
-use Rattle.std.proofs.Common.{◌≡◌, ℕ, zero, suc, ◌+◌, ◌-◌, ◌*◌, ◌/◌, ◌<◌, ◌≤◌, max, refl, sym, ◌∙◌}
-use Rattle.std.proofs.Common.{subst, arith}
-use Rattle.std.proofs.Math.Nat.{max-le}
-use Rattle.pulse_plan.specs.Halves.{Halved, left_period, right_period}
+use Rattle.std.proofs.Common.{◌≡◌, ℕ, zero, suc, ◌+◌, ◌*◌, ◌/◌, ◌<◌, ◌≤◌, refl, sym, ap, ◌∙◌}
+use Rattle.std.proofs.Common.{⊎_elim, subst₂, arith}
+use Rattle.std.proofs.Math.Nat.{max-le, div-eq_of_lt, div_self}
+use Rattle.std.proofs.lemmas.Bool.{cases_lt}
+use Rattle.pulse_plan.specs.Halves.{Halves, Halved, instructions, right_wait}
 use Rattle.pulse_plan.specs.Halvings.{Halving, One, Split, halving_nodes, halving_faults}
 use Rattle.pulse_plan.specs.Halvings.{halving_bound, halves_of, bound_over, halved_within}
-use Rattle.pulse_plan.specs.Halvings.{halving_of}
+use Rattle.pulse_plan.specs.Halvings.{halving_of, left_part, right_part}
 
 -- N > 3 F
 pub three_faults : (tree : Halving) → 3 * halving_faults tree < halving_nodes tree
@@ -25,8 +26,8 @@ is_halved left right spares = record {
 -- ---- the trees that plans have
 
 -- the faults of the halves
-both_halves : (f : ℕ) → (f + 1) / 3 + (f - (f + 1) / 3) ≡ f
-both_halves f = omega arith
+pub both_parts : (f : ℕ) → 0 < f → left_part f + right_part f + 1 ≡ f
+both_parts f some = omega arith
 
 faults_within : (height f spares : ℕ) → f ≤ height
     → halving_faults (halved_within height f spares) ≡ f
@@ -35,9 +36,9 @@ faults_within (suc height) zero spares le = refl
 faults_within (suc height) (suc f) spares le =
     omega (
       arith,
-      both_halves f,
-      faults_within height ((f + 1) / 3) 0 (omega arith),
-      faults_within height (f - (f + 1) / 3) 0 (omega arith),
+      both_parts (suc f) (omega arith),
+      faults_within height (left_part (suc f)) 0 (omega arith),
+      faults_within height (right_part (suc f)) 0 (omega arith),
     )
 
 nodes_within : (height f : ℕ) → f ≤ height → halving_nodes (halved_within height f 0) ≡ 3 * f + 1
@@ -46,9 +47,9 @@ nodes_within (suc height) zero le = refl
 nodes_within (suc height) (suc f) le =
     omega (
       arith,
-      both_halves f,
-      nodes_within height ((f + 1) / 3) (omega arith),
-      nodes_within height (f - (f + 1) / 3) (omega arith),
+      both_parts (suc f) (omega arith),
+      nodes_within height (left_part (suc f)) (omega arith),
+      nodes_within height (right_part (suc f)) (omega arith),
     )
 
 pub faults_of_halving : (f spares : ℕ) → halving_faults (halving_of f spares) ≡ f
@@ -60,33 +61,65 @@ nodes_of_halving zero spares some = absurd (omega arith)
 nodes_of_halving (suc f) spares some =
     omega (
       arith,
-      both_halves f,
-      nodes_within f ((f + 1) / 3) (omega arith),
-      nodes_within f (f - (f + 1) / 3) (omega arith),
+      both_parts (suc f) some,
+      nodes_within f (left_part (suc f)) (omega arith),
+      nodes_within f (right_part (suc f)) (omega arith),
     )
 
+-- ---- bounds
+
+-- halves of so many faults; a bound asks no more of them
+abbrev pub of_faults : (left right : ℕ) → Halves
+of_faults left right = record {
+  left_nodes = 3 * left + 1;
+  left_faults = left;
+  right_nodes = 3 * right + 1;
+  right_faults = right;
+  nodes = 3 * (left + right + 1) + 1;
+}
+
+-- the right half has two phases of a king, or three if it is no larger than the left one
+pub fewer_turns : (left right : ℕ) → left < right
+    → right_wait (of_faults left right) ≡ 2 * instructions right + 2
+fewer_turns left right less =
+    let none : (left + 1) / (right + 1) ≡ 0 = div-eq_of_lt (omega arith) in
+    ap (λ k. (k + 2) * instructions right + 2) none
+
+pub same_turns : (left right : ℕ) → left ≡ right
+    → right_wait (of_faults left right) ≡ 3 * instructions right + 2
+same_turns left right same =
+    let one : (right + 1) / (right + 1) ≡ 1 = div_self (omega arith) in
+    ap (λ l. ((l + 1) / (right + 1) + 2) * instructions right + 2) same
+    ∙ ap (λ k. (k + 2) * instructions right + 2) one
+
 -- at most this for so many faults
-fast_over : (f left right : ℕ) → left ≤ 42 * ((f + 1) / 3) → right ≤ 42 * (f - (f + 1) / 3)
-    → bound_over (f + 1) left right ≤ 42 * (f + 1)
-fast_over f left right l r =
-    let most : max (left + 2 * left_period (f + 1)) (right + 3 * right_period (f + 1))
-    ≤ 39 * f + 35 =
-    max-le (omega arith) (omega arith) in
-    omega arith
+right_fast : (f : ℕ) → 0 < f
+    → 16 * right_part f + right_wait (of_faults (left_part f) (right_part f)) ≤ 16 * f
+right_fast f some = ⊎_elim
+    (λ less. omega (arith, fewer_turns (left_part f) (right_part f) less))
+    (λ le. let same : left_part f ≡ right_part f = omega arith in
+    omega (arith, same_turns (left_part f) (right_part f) same))
+    (cases_lt (left_part f) (right_part f))
+
+fast_over : (f left right : ℕ) → 0 < f → left ≤ 16 * left_part f → right ≤ 16 * right_part f
+    → bound_over (of_faults (left_part f) (right_part f)) left right ≤ 16 * f
+fast_over f left right some l r =
+    max-le (omega arith) (omega (arith, right_fast f some))
 
 bound_within : (height f spares : ℕ) → f ≤ height
-    → halving_bound (halved_within height f spares) ≤ 42 * f
+    → halving_bound (halved_within height f spares) ≤ 16 * f
 bound_within zero f spares le = omega arith
 bound_within (suc height) zero spares le = omega arith
 bound_within (suc height) (suc f) spares le =
-    let e : suc f ≡ f + 1 = omega arith in
-    let faults = faults_within (suc height) (suc f) spares le ∙ e in
-    subst (λ g. bound_over g (halving_bound (halved_within height ((f + 1) / 3) 0))
-    (halving_bound (halved_within height (f - (f + 1) / 3) 0)) ≤ 42 * suc f) (sym faults)
-    (let fast = fast_over f (halving_bound (halved_within height ((f + 1) / 3) 0))
-    (halving_bound (halved_within height (f - (f + 1) / 3) 0))
-    (bound_within height ((f + 1) / 3) 0 (omega arith))
-    (bound_within height (f - (f + 1) / 3) 0 (omega arith)) in omega arith)
+    let l : ℕ = left_part (suc f) in
+    let r : ℕ = right_part (suc f) in
+    let left : Halving = halved_within height l 0 in
+    let right : Halving = halved_within height r 0 in
+    subst₂ (λ a b. bound_over (of_faults a b) (halving_bound left) (halving_bound right)
+    ≤ 16 * suc f) (sym (faults_within height l 0 (omega arith)))
+    (sym (faults_within height r 0 (omega arith)))
+    (fast_over (suc f) (halving_bound left) (halving_bound right) (omega arith)
+    (bound_within height l 0 (omega arith)) (bound_within height r 0 (omega arith)))
 
-pub bound_of_halving : (f spares : ℕ) → halving_bound (halving_of f spares) ≤ 42 * f
+pub bound_of_halving : (f spares : ℕ) → halving_bound (halving_of f spares) ≤ 16 * f
 bound_of_halving f spares = bound_within f f spares (omega arith)

@@ -1,23 +1,23 @@
 -- What is heard of a group, as it is read from the registers of all states.
-use Rattle.std.proofs.Common.{◌≡◌, ℕ, zero, suc, ◌+◌, ◌-◌, ◌*◌, ◌/◌, ◌%◌, ◌<◌, List, count_by}
-use Rattle.std.proofs.Common.{nat_eq, unwrap_or, refl, sym, ap, ap₂, ◌∙◌, arith}
+use Rattle.std.proofs.Common.{◌≡◌, ℕ, zero, suc, ◌+◌, ◌-◌, ◌%◌, ◌<◌, List, Bool, Option}
+use Rattle.std.proofs.Common.{count_by}
+use Rattle.std.proofs.Common.{nat_eq, nat_le, unwrap_or, refl, sym, ap, ap₂, ◌∙◌, arith}
 use Rattle.std.proofs.lemmas.List.{get_or-drop}
 use Rattle.sync_types.specs.declared.states.Reg.{Reg}
 use Rattle.sync_types.specs.States.{State, register_at, zero_register}
 use Rattle.construction.specs.PhaseKing.{instructed, up}
 use Rattle.construction.specs.Steps.{state_of}
-use Rattle.pulse_plan.specs.LevelStates.{LevelState, sees, says_left, says_right, values_of}
+use Rattle.pulse_plan.specs.LevelStates.{LevelState, shown, saw, trusts, follows_left}
+use Rattle.pulse_plan.specs.LevelStates.{instruction_of, king_of, values_of}
 use Rattle.pulse_plan.specs.Halvings.{halving_of}
 use Rattle.pulse_plan.specs.Steps.{shown_in}
-use Rattle.pulse_plan.specs.Groups.{PulseGroup, left_of, right_of}
-use Rattle.pulse_plan.specs.declared.level_states.HeardPulses.{HeardPulses}
+use Rattle.pulse_plan.specs.Groups.{PulseGroup, left_of, right_of, sizes_of}
 use Rattle.pulse_plan.specs.MachineGroups.{below, section}
 use Rattle.pulse_plan.specs.PulseMachineHearing.{values_in, outputs_in, level_states_in}
 use Rattle.pulse_plan.specs.PulseMachineHearing.{level_state_in}
-use Rattle.pulse_plan.specs.PulseMachineHearing.{shown_by, level_state_heard}
-use Rattle.pulse_plan.specs.PulseMachineLevelStates.{level_state_counted}
+use Rattle.pulse_plan.specs.PulseMachineHearing.{level_state_heard}
 use Rattle.pulse_plan.proofs.Lists.{map_map, map_same, count_by-map, count_same}
-use Rattle.pulse_plan.proofs.Halves.{both_faults}
+use Rattle.pulse_plan.proofs.Numbers.{both_parts}
 
 -- a register of a state in a group
 pub register_below : (r i : ℕ) (s : State) → register_at i (below r s) ≡ register_at (r + i) s
@@ -32,38 +32,17 @@ shown_first : (f spares : ℕ) (s : State) → 0 < f
 shown_first zero spares s some = absurd (omega arith)
 shown_first (suc f) spares s some = refl
 
-pub zeros_are : (group : PulseGroup) (heard : List State) → 0 < group.faults
-    → count_by (λ s. nat_eq 0 (unwrap_or (register_at group.register s).a 0))
+-- who saw this
+pub saw_is : (group : PulseGroup) (seen : ℕ) (heard : List State)
+    → count_by (λ s. nat_eq seen (unwrap_or (register_at (group.register + 1) s).a 0))
     (section group.first group.nodes heard)
-    ≡ count_by (nat_eq 0) (outputs_in group heard)
-zeros_are group heard some =
+    ≡ saw seen (level_states_in group heard)
+saw_is group seen heard =
     let all = section group.first group.nodes heard in
-    sym (count_by-map (nat_eq 0) (shown_by group) all
-    ∙ count_same (λ s. nat_eq 0 (shown_by group s))
-    (λ s. nat_eq 0 (unwrap_or (register_at group.register s).a 0))
-    (λ s. ap (nat_eq 0) (shown_first group.faults (group.nodes - (3 * group.faults + 1))
-    (below group.register s) some
-    ∙ ap (λ (q : Reg). unwrap_or q.a 0) (first_below group.register s))) all)
-
-pub marks_left : (group : PulseGroup) (heard : List State)
-    → count_by (λ s. (register_at (group.register + 2) s).d) (section group.first group.nodes heard)
-    ≡ says_left (level_states_in group heard)
-marks_left group heard =
-    let all = section group.first group.nodes heard in
-    sym (count_by-map (λ (p : LevelState). p.saw_left) (level_state_in group) all
-    ∙ count_same (λ s. (level_state_in group s).saw_left)
-    (λ s. (register_at (group.register + 2) s).d)
-    (λ s. ap (λ (q : Reg). q.d) (register_below group.register 2 s)) all)
-
-pub marks_right : (group : PulseGroup) (heard : List State)
-    → count_by (λ s. (register_at (group.register + 3) s).d) (section group.first group.nodes heard)
-    ≡ says_right (level_states_in group heard)
-marks_right group heard =
-    let all = section group.first group.nodes heard in
-    sym (count_by-map (λ (p : LevelState). p.saw_right) (level_state_in group) all
-    ∙ count_same (λ s. (level_state_in group s).saw_right)
-    (λ s. (register_at (group.register + 3) s).d)
-    (λ s. ap (λ (q : Reg). q.d) (register_below group.register 3 s)) all)
+    sym (count_by-map (λ (p : LevelState). nat_eq seen p.seen) (level_state_in group) all
+    ∙ count_same (λ s. nat_eq seen (level_state_in group s).seen)
+    (λ s. nat_eq seen (unwrap_or (register_at (group.register + 1) s).a 0))
+    (λ s. ap (λ (q : Reg). nat_eq seen (unwrap_or q.a 0)) (register_below group.register 1 s)) all)
 
 -- the values are those of the level states
 pub values_are : (group : PulseGroup) (heard : List State)
@@ -74,59 +53,43 @@ values_are group heard =
     ∙ map_same (λ s. (level_state_in group s).register.a) (λ s. (register_at group.register s).a)
     (λ s. ap (λ (q : Reg). q.a) (first_below group.register s)) all)
 
--- what was counted of the group
-pub record IsSaid (group : PulseGroup) (heard : List State) (said : HeardPulses) : Type 0 where
-  pub sees_left : said.sees_left ≡ sees (left_of group).nodes (left_of group).faults
-      (outputs_in (left_of group) heard)
-  pub says_left : said.says_left ≡ says_left (level_states_in group heard)
-  pub sees_right : said.sees_right ≡ sees (right_of group).nodes (right_of group).faults
-      (outputs_in (right_of group) heard)
-  pub says_right : said.says_right ≡ says_right (level_states_in group heard)
+-- what the level state after a round is made of
+abbrev pub level_state_with : PulseGroup → (own : LevelState) (left right : ℕ) (backed : Bool)
+    (values : List (Option ℕ)) → LevelState
+level_state_with group own left right backed values =
+    let halves = sizes_of group in
+    let follows = follows_left halves own backed in
+    let instruction = instruction_of halves follows own.seen right in record {
+      register = instructed group.nodes group.faults (up group.modulus) (instruction % 3)
+          own.register values (king_of halves follows instruction);
+      seen = left;
+      trusted = trusts own left backed;
+    }
 
-abbrev said_of : PulseGroup → List State → HeardPulses
-said_of group heard = record {
-  sees_left = sees (left_of group).nodes (left_of group).faults (outputs_in (left_of group) heard);
-  says_left = says_left (level_states_in group heard);
-  sees_right = sees (right_of group).nodes (right_of group).faults
-      (outputs_in (right_of group) heard);
-  says_right = says_right (level_states_in group heard);
-}
-
-said_is : (group : PulseGroup) (heard : List State) (said : HeardPulses) → IsSaid group heard said
-    → said ≡ said_of group heard
-said_is group heard said is =
-    ap₂ (λ a b. record {
-      sees_left = a;
-      says_left = b;
-      sees_right = said.sees_right;
-      says_right = said.says_right;
-    }) is.sees_left is.says_left
-    ∙ ap₂ (λ a b. record (said_of group heard) { sees_right = a; says_right = b }) is.sees_right
-    is.says_right
-
--- the level state that was counted is the one by all that is heard
+-- the level state that was made is the one by all that is heard
 pub level_state_is : (group : PulseGroup) (v : ℕ) (heard : List State) (own : LevelState)
-    (register : Reg) (said : HeardPulses)
+    (left right : ℕ) (is_backed : Bool)
     → 0 < group.faults → own ≡ level_state_in group (state_of heard v)
-    → register
-    ≡ instructed group.nodes group.faults (up group.modulus) (own.instruction % 3) own.register
-    (values_in group heard) (own.instruction / 3)
-    → IsSaid group heard said
-    → level_state_counted group.nodes group.faults own register said
+    → left ≡ shown (left_of group).modulus (outputs_in (left_of group) heard)
+    → right ≡ shown (right_of group).modulus (outputs_in (right_of group) heard)
+    → is_backed ≡ nat_le (group.nodes - group.faults) (saw own.seen (level_states_in group heard))
+    → level_state_with group own left right is_backed (values_in group heard)
     ≡ level_state_heard group v heard
-level_state_is group v heard own register said some o e is =
-    let n = group.nodes in
-    let f = group.faults in
-    let next = up group.modulus in
-    let all = said_of group heard in
-    let true_own = level_state_in group (state_of heard v) in
-    ap₂ (level_state_counted n f own) e (said_is group heard said is)
-    ∙ (ap (λ (p : LevelState). level_state_counted n f p
-    (instructed n f next (p.instruction % 3) p.register
-    (values_in group heard) (p.instruction / 3)) all) o
-    ∙ (ap (λ values. level_state_counted n f true_own
-    (instructed n f next (true_own.instruction % 3)
-    true_own.register values (true_own.instruction / 3)) all) (values_are group heard)
-    ∙ ap (λ k. level_state_counted n k true_own (instructed n k next (true_own.instruction % 3)
-    true_own.register (values_of (level_states_in group heard)) (true_own.instruction / 3)) all)
-    (sym (both_faults f some))))
+level_state_is group v heard own left right is_backed some o l r b =
+    let states = level_states_in group heard in
+    let true_left = shown (left_of group).modulus (outputs_in (left_of group) heard) in
+    let true_right = shown (right_of group).modulus (outputs_in (right_of group) heard) in
+    let step : (own : LevelState) (f : ℕ) → LevelState = λ own f.
+    let halves = sizes_of group in
+    let backed = nat_le (group.nodes - f) (saw own.seen states) in
+    let follows = follows_left halves own backed in
+    let instruction = instruction_of halves follows own.seen true_right in record {
+      register = instructed group.nodes f (up group.modulus) (instruction % 3)
+          own.register (values_of states) (king_of halves follows instruction);
+      seen = true_left;
+      trusted = trusts own true_left backed;
+    } in
+    ap₂ (λ x y. level_state_with group own x y is_backed (values_in group heard)) l r
+    ∙ (ap₂ (level_state_with group own true_left true_right) b (values_are group heard)
+    ∙ (ap (λ p. step p group.faults) o
+    ∙ ap (step (level_state_in group (state_of heard v))) (sym (both_parts group.faults some))))

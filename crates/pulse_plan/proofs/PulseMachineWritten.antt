@@ -22,94 +22,78 @@ set_in before ys n i j y e at =
     set-append_right before ys n i y e (omega arith)
     ∙ ap (λ k. before ++ set ys k y) (omega arith)
 
--- the registers from one on, of which there are four
-four_from : (out : List Reg) (r : ℕ) → r + 4 ≤ length out
+-- the registers from one on, of which there are two
+two_from : (out : List Reg) (r : ℕ) → r + 2 ≤ length out
     → out
     ≡ take r out
-    ++ (get_or out r zero_register ∷ get_or out (r + 1) zero_register
-    ∷ get_or out (r + 2) zero_register ∷ get_or out (r + 3) zero_register ∷ drop (r + 4) out)
-four_from out r le =
+    ++ (get_or out r zero_register ∷ get_or out (r + 1) zero_register ∷ drop (r + 2) out)
+two_from out r le =
     let z = zero_register in
     let before = take r out in
     sym (take-append-drop r out)
     ∙ (ap (λ ys. before ++ ys) (drop_more out r z (omega arith))
-    ∙ (ap (λ ys. before ++ (get_or out r z ∷ ys)) (drop_more out (r + 1) z (omega arith)
-    ∙ ap (λ k. get_or out (r + 1) z ∷ drop k out) (omega arith))
-    ∙ (ap (λ ys. before ++ (get_or out r z ∷ get_or out (r + 1) z ∷ ys))
-    (drop_more out (r + 2) z (omega arith)
-    ∙ ap (λ k. get_or out (r + 2) z ∷ drop k out) (omega arith))
-    ∙ ap (λ ys. before
-    ++ (get_or out r z ∷ get_or out (r + 1) z ∷ get_or out (r + 2) z ∷ ys))
-    (drop_more out (r + 3) z (omega arith)
-    ∙ ap (λ k. get_or out (r + 3) z ∷ drop k out) (omega arith)))))
+    ∙ ap (λ ys. before ++ (get_or out r z ∷ ys)) (drop_more out (r + 1) z (omega arith)
+    ∙ ap (λ k. get_or out (r + 1) z ∷ drop k out) (omega arith)))
 
--- four registers are written one by one
-pub four_set : (out : List Reg) (r : ℕ) (a b c d : Reg) → r + 4 ≤ length out
-    → set (set (set (set out r a) (r + 1) b) (r + 2) c) (r + 3) d
-    ≡ take r out ++ (a ∷ b ∷ c ∷ d ∷ []) ++ drop (r + 4) out
-four_set out r a b c d le =
+-- two registers are written one by one
+pub two_set : (out : List Reg) (r : ℕ) (a b : Reg) → r + 2 ≤ length out
+    → set (set out r a) (r + 1) b ≡ take r out ++ (a ∷ b ∷ []) ++ drop (r + 2) out
+two_set out r a b le =
     let before = take r out in
-    let rest = drop (r + 4) out in
+    let rest = drop (r + 2) out in
     let size : length before ≡ r = length-take-le r out (omega arith) in
     let w = get_or out r zero_register in
     let x = get_or out (r + 1) zero_register in
-    let y = get_or out (r + 2) zero_register in
-    let z = get_or out (r + 3) zero_register in
-    ap (λ o. set (set (set (set o r a) (r + 1) b) (r + 2) c) (r + 3) d) (four_from out r le)
-    ∙ (ap (λ o. set (set (set o (r + 1) b) (r + 2) c) (r + 3) d)
-    (set_in before (w ∷ x ∷ y ∷ z ∷ rest) r r 0 a size (omega arith))
-    ∙ (ap (λ o. set (set o (r + 2) c) (r + 3) d)
-    (set_in before (a ∷ x ∷ y ∷ z ∷ rest) r (r + 1) 1 b size (omega arith))
-    ∙ (ap (λ o. set o (r + 3) d)
-    (set_in before (a ∷ b ∷ y ∷ z ∷ rest) r (r + 2) 2 c size (omega arith))
-    ∙ (set_in before (a ∷ b ∷ c ∷ z ∷ rest) r (r + 3) 3 d size (omega arith)
-    ∙ sym (append_assoc before (a ∷ b ∷ c ∷ d ∷ []) rest)))))
+    ap (λ o. set (set o r a) (r + 1) b) (two_from out r le)
+    ∙ (ap (λ o. set o (r + 1) b) (set_in before (w ∷ x ∷ rest) r r 0 a size (omega arith))
+    ∙ (set_in before (a ∷ x ∷ rest) r (r + 1) 1 b size (omega arith)
+    ∙ sym (append_assoc before (a ∷ b ∷ []) rest)))
 
 -- how long what stands before the half's registers is
-length_before : (r f : ℕ) (level_state : LevelState) (out : List Reg) → r + 4 ≤ length out
-    → length (take r out ++ registers_of f level_state) ≡ r + 4
-length_before r f level_state out le =
-    length-append (take r out) (registers_of f level_state)
-    ∙ ap (λ n. n + 4) (length-take-le r out (omega arith))
+length_before : (r : ℕ) (level_state : LevelState) (out : List Reg) → r + 2 ≤ length out
+    → length (take r out ++ registers_of level_state) ≡ r + 2
+length_before r level_state out le =
+    length-append (take r out) (registers_of level_state)
+    ∙ ap (λ n. n + 2) (length-take-le r out (omega arith))
 
 -- how long a written state is
-pub length_with_level_state_at : (r f : ℕ) (level_state : LevelState) (out : State)
-    → r + 4 ≤ length out.registers
-    → length (with_level_state_at r f level_state out).registers ≡ length out.registers
-length_with_level_state_at r f level_state out le =
-    length-append (take r out.registers ++ registers_of f level_state) (drop (r + 4) out.registers)
+pub length_with_level_state_at : (r : ℕ) (level_state : LevelState) (out : State)
+    → r + 2 ≤ length out.registers
+    → length (with_level_state_at r level_state out).registers ≡ length out.registers
+length_with_level_state_at r level_state out le =
+    length-append (take r out.registers ++ registers_of level_state) (drop (r + 2) out.registers)
     ∙ omega (
       arith,
-      length_before r f level_state out.registers le,
-      length-drop (r + 4) out.registers,
+      length_before r level_state out.registers le,
+      length-drop (r + 2) out.registers,
     )
 
 -- the half's step is written after the level state
-pub overlaid_after : (r f : ℕ) (level_state : LevelState) (state out : State)
-    → r + 4 ≤ length out.registers
-    → overlaid (r + 4) state (with_level_state_at r f level_state out)
-    ≡ overlaid r (with_level_state f level_state state) out
-overlaid_after r f level_state state out le =
+pub overlaid_after : (r : ℕ) (level_state : LevelState) (state out : State)
+    → r + 2 ≤ length out.registers
+    → overlaid (r + 2) state (with_level_state_at r level_state out)
+    ≡ overlaid r (with_level_state level_state state) out
+overlaid_after r level_state state out le =
     let before = take r out.registers in
-    let four = registers_of f level_state in
-    let rest = drop (r + 4) out.registers in
-    let size = length_before r f level_state out.registers le in
+    let two = registers_of level_state in
+    let rest = drop (r + 2) out.registers in
+    let size = length_before r level_state out.registers le in
     let own = length state.registers in
-    let far : r + 4 + own ≡ r + suc (suc (suc (suc own))) = omega arith in
-    let ahead : take (r + 4) (with_level_state_at r f level_state out).registers ≡ before ++ four =
-    take_at (before ++ four) rest (r + 4) size in
-    let after : drop (r + 4 + own) (with_level_state_at r f level_state out).registers
-    ≡ drop (r + suc (suc (suc (suc own)))) out.registers =
-    sym (drop-drop own (r + 4) (with_level_state_at r f level_state out).registers)
-    ∙ (ap (drop own) (drop_at (before ++ four) rest (r + 4) size)
-    ∙ (drop-drop own (r + 4) out.registers ∙ ap (λ n. drop n out.registers) far)) in
+    let far : r + 2 + own ≡ r + suc (suc own) = omega arith in
+    let ahead : take (r + 2) (with_level_state_at r level_state out).registers ≡ before ++ two =
+    take_at (before ++ two) rest (r + 2) size in
+    let after : drop (r + 2 + own) (with_level_state_at r level_state out).registers
+    ≡ drop (r + suc (suc own)) out.registers =
+    sym (drop-drop own (r + 2) (with_level_state_at r level_state out).registers)
+    ∙ (ap (drop own) (drop_at (before ++ two) rest (r + 2) size)
+    ∙ (drop-drop own (r + 2) out.registers ∙ ap (λ n. drop n out.registers) far)) in
     ap₂ (λ (xs ys : List Reg). record { x = state.x; registers = xs ++ state.registers ++ ys })
     ahead
     after
     ∙ ap (λ (xs : List Reg). record {
       x = state.x;
-      registers = xs ++ drop (r + suc (suc (suc (suc own)))) out.registers;
-    }) (append_assoc before four state.registers)
+      registers = xs ++ drop (r + suc (suc own)) out.registers;
+    }) (append_assoc before two state.registers)
 
 -- what is written over a cleared state
 pub over_cleared : (d : ℕ) (state out : State) → length state.registers ≤ d

@@ -4,7 +4,7 @@ use Rattle.std.proofs.Common.{cond, List, [], ◌∷◌, length, get_or, replica
 use Rattle.std.proofs.Common.{All, IfSome, refl, sym, ap, ◌∙◌, subst, subst₂, arith, mod-lt}
 use Rattle.std.specs.Prelude.{nat_lt}
 use Rattle.std.specs.Option.{option_map}
-use Rattle.std.proofs.Math.Nat.{le-max_left, le-max_right, min-le_right}
+use Rattle.std.proofs.Math.Nat.{le-max_left, le-max_right}
 use Rattle.std.proofs.lemmas.Bool.{cond_both}
 use Rattle.std.proofs.lemmas.List.{length-append, length-replicate, get_or-drop}
 use Rattle.std.proofs.lemmas.List.Elements.{All-nil, All-cons, All-get_or}
@@ -12,38 +12,16 @@ use Rattle.sync_types.specs.declared.states.Reg.{Reg}
 use Rattle.sync_types.specs.States.{State, zero_state, zero_register, register_at}
 use Rattle.construction.specs.PhaseKing.{up}
 use Rattle.construction.specs.Steps.{state_of}
-use Rattle.pulse_plan.specs.Halves.{Halves, faults_of, instructions, left_period}
+use Rattle.pulse_plan.specs.Halves.{Halves, left_period}
 use Rattle.pulse_plan.specs.Halves.{right_period}
-use Rattle.pulse_plan.specs.LevelStates.{LevelState, next_instruction, older}
-use Rattle.pulse_plan.specs.LevelStates.{level_state_after}
+use Rattle.pulse_plan.specs.LevelStates.{LevelState}
 use Rattle.pulse_plan.specs.Halvings.{Halving, One, Split, halving_nodes, halving_height}
 use Rattle.pulse_plan.specs.Halvings.{halves_of}
-use Rattle.pulse_plan.specs.Registers.{IsLevelState, inner, with_level_state}
+use Rattle.pulse_plan.specs.Registers.{inner, with_level_state}
 use Rattle.pulse_plan.specs.Steps.{half_of, new_level_state, step_in}
 use Rattle.pulse_plan.specs.Steps.{halving_depth, step_of}
 use Rattle.pulse_plan.specs.Runs.{Fields, fields_in, HasFields, IsState}
-use Rattle.pulse_plan.proofs.LevelStates.{followed, value_below}
-
--- ---- level states
-
-older_most : (most : ℕ) (echo : Bool) (age : ℕ) → 1 ≤ most → older most echo age ≤ most
-older_most most true age some = some
-older_most most false age some = min-le_right (age + 1) most
-
-next_instruction_most : (f : ℕ) (fire : Bool) (instruction : ℕ)
-    → next_instruction f fire instruction ≤ instructions f
-next_instruction_most f true instruction = omega arith
-next_instruction_most f false instruction = min-le_right (instruction + 1) (instructions f)
-
--- the instruction and the age of a level state after a round
-pub next_is_level_state : (halves : Halves) (next : ℕ → ℕ) (own : LevelState) (left right : List ℕ)
-    (states : List LevelState)
-    → IsLevelState (faults_of halves) (level_state_after halves next own left right states)
-next_is_level_state halves next own left right states =
-    let f : ℕ = faults_of halves in record {
-      instruction = next_instruction_most f _ own.instruction;
-      age = older_most (left_period f) _ own.age (omega arith);
-    }
+use Rattle.pulse_plan.proofs.LevelStates.{followed}
 
 -- an incremented value is below the modulus
 incremented_below : (c : ℕ) → 0 < c → (a : Option ℕ) → IfSome (option_map (up c) a) (λ x. x < c)
@@ -52,52 +30,48 @@ incremented_below c some (Some a) = mod-lt (a + 1) some
 
 -- ---- fields
 
--- the state after a level state has the fields after the first four
-pub has_inner : (a b c d : ℕ) (fields : Fields) (state : State)
-    → HasFields (record fields { moduli = a ∷ b ∷ c ∷ d ∷ fields.moduli }) state
+-- the state after a level state has the fields after the first two
+pub has_inner : (a b : ℕ) (fields : Fields) (state : State)
+    → HasFields (record fields { moduli = a ∷ b ∷ fields.moduli }) state
     → HasFields fields (inner state)
-has_inner a b c d fields state has =
-    let all : List ℕ = a ∷ b ∷ c ∷ d ∷ fields.moduli in record {
+has_inner a b fields state has =
+    let all : List ℕ = a ∷ b ∷ fields.moduli in record {
       x = has.x;
       values = λ i lt. subst₂ (λ (r : Reg) most. IfSome r.a (λ n. n < most))
-          (sym (get_or-drop 4 state.registers i zero_register)) (sym (get_or-drop 4 all i 0))
-          (has.values (4 + i) (omega arith));
-      lacking = λ i le. get_or-drop 4 state.registers i zero_register
-          ∙ has.lacking (4 + i) (omega arith);
+          (sym (get_or-drop 2 state.registers i zero_register)) (sym (get_or-drop 2 all i 0))
+          (has.values (2 + i) (omega arith));
+      lacking = λ i le. get_or-drop 2 state.registers i zero_register
+          ∙ has.lacking (2 + i) (omega arith);
     }
 
--- and with a level state in range before it, it has four more
-pub has_level_state : (f modulus : ℕ) (level_state : LevelState) (fields : Fields) (state : State)
-    (further : List Reg)
-    → IfSome level_state.register.a (λ a. a < modulus) → HasFields fields (followed state further)
-    → HasFields (record fields {
-      moduli = modulus ∷ instructions f ∷ left_period f ∷ 1 ∷ fields.moduli;
-    }) (followed (with_level_state f level_state state) further)
-has_level_state f modulus level_state fields state further below has = record {
+-- and with a level state in range before it, it has two more
+pub has_level_state : (modulus period : ℕ) (level_state : LevelState) (fields : Fields)
+    (state : State) (further : List Reg)
+    → IfSome level_state.register.a (λ a. a < modulus) → level_state.seen < period
+    → HasFields fields (followed state further)
+    → HasFields (record fields { moduli = modulus ∷ period ∷ fields.moduli })
+    (followed (with_level_state level_state state) further)
+has_level_state modulus period level_state fields state further below seen has = record {
   x = has.x;
   values = values;
   lacking = lacking;
 }
   where
     moduli : List ℕ
-    moduli = modulus ∷ instructions f ∷ left_period f ∷ 1 ∷ fields.moduli
+    moduli = modulus ∷ period ∷ fields.moduli
 
     values : (i : ℕ) → i < length moduli
-        → IfSome (register_at i (followed (with_level_state f level_state state) further)).a
+        → IfSome (register_at i (followed (with_level_state level_state state) further)).a
         (λ a. a < get_or moduli i 0)
     values zero lt = below
-    values (suc zero) lt = value_below (instructions f) level_state.instruction
-    values (suc (suc zero)) lt = value_below (left_period f) level_state.age
-    values (suc (suc (suc zero))) lt = omega arith
-    values (suc (suc (suc (suc i)))) lt = has.values i (omega arith)
+    values (suc zero) lt = seen
+    values (suc (suc i)) lt = has.values i (omega arith)
 
     lacking : (i : ℕ) → length moduli ≤ i
-        → register_at i (followed (with_level_state f level_state state) further) ≡ zero_register
+        → register_at i (followed (with_level_state level_state state) further) ≡ zero_register
     lacking zero le = absurd (omega arith)
     lacking (suc zero) le = absurd (omega arith)
-    lacking (suc (suc zero)) le = absurd (omega arith)
-    lacking (suc (suc (suc zero))) le = absurd (omega arith)
-    lacking (suc (suc (suc (suc i)))) le = has.lacking i (omega arith)
+    lacking (suc (suc i)) le = has.lacking i (omega arith)
 
 -- zero registers
 abbrev pub zeros : ℕ → List Reg
@@ -133,23 +107,23 @@ pub step_has_fields : (tree : Halving) (modulus v : ℕ) (group : List State) (c
 step_has_fields One modulus v group count some =
     number_alone modulus (up modulus (state_of group v).x) count (mod-lt _ some)
 step_has_fields (Split left right spares) modulus v group count some =
-    let f : ℕ = faults_of (halves_of left right spares) in
+    let halves : Halves = halves_of left right spares in
     let n : ℕ = halving_nodes left in
     let m : ℕ = halving_nodes right in
     let none : Fields = record { base = 1; moduli = [] } in
-    let left_fields : Fields = fields_in left (left_period f) v in
-    let right_fields : Fields = fields_in right (right_period f) (v - n) in
-    let in_left : State = step_in left (left_period f) v (half_of 0 n group) in
-    let in_right : State = step_in right (right_period f) (v - n) (half_of n m group) in
-    has_level_state f modulus (new_level_state left right spares modulus v group)
+    let left_fields : Fields = fields_in left (left_period halves) v in
+    let right_fields : Fields = fields_in right (right_period halves) (v - n) in
+    let in_left : State = step_in left (left_period halves) v (half_of 0 n group) in
+    let in_right : State = step_in right (right_period halves) (v - n) (half_of n m group) in
+    has_level_state modulus (left_period halves) (new_level_state left right spares modulus v group)
     (cond (nat_lt v n) left_fields (cond (nat_lt v (n + m)) right_fields none))
     (cond (nat_lt v n) in_left (cond (nat_lt v (n + m)) in_right (zero_state 0))) (zeros count)
-    (incremented_below modulus some _)
+    (incremented_below modulus some _) (mod-lt _ (omega arith))
     (has_chosen (nat_lt v n) left_fields (cond (nat_lt v (n + m)) right_fields none) in_left
     (cond (nat_lt v (n + m)) in_right (zero_state 0)) (zeros count)
-    (step_has_fields left (left_period f) v (half_of 0 n group) count (omega arith))
+    (step_has_fields left (left_period halves) v (half_of 0 n group) count (omega arith))
     (has_chosen (nat_lt v (n + m)) right_fields none in_right (zero_state 0) (zeros count)
-    (step_has_fields right (right_period f) (v - n) (half_of n m group) count (omega arith))
+    (step_has_fields right (right_period halves) (v - n) (half_of n m group) count (omega arith))
     (number_alone 1 0 count (omega arith))))
 
 -- a step gives no more registers than the tree has
@@ -157,26 +131,26 @@ pub depth_most : (tree : Halving) (modulus v : ℕ) (group : List State)
     → length (step_in tree modulus v group).registers ≤ halving_depth tree
 depth_most One modulus v group = omega arith
 depth_most (Split left right spares) modulus v group =
-    let f : ℕ = faults_of (halves_of left right spares) in
+    let halves : Halves = halves_of left right spares in
     let n : ℕ = halving_nodes left in
     let m : ℕ = halving_nodes right in
-    let in_left : State = step_in left (left_period f) v (half_of 0 n group) in
-    let in_right : State = step_in right (right_period f) (v - n) (half_of n m group) in
+    let in_left : State = step_in left (left_period halves) v (half_of 0 n group) in
+    let in_right : State = step_in right (right_period halves) (v - n) (half_of n m group) in
     let rest : State =
     cond (nat_lt v n) in_left (cond (nat_lt v (n + m)) in_right (zero_state 0)) in
     let above : ℕ = max (halving_height left) (halving_height right) in
-    let most : length rest.registers ≤ 4 * above =
+    let most : length rest.registers ≤ 2 * above =
     cond_both (nat_lt v n) in_left (cond (nat_lt v (n + m)) in_right (zero_state 0))
-    (λ s. length s.registers ≤ 4 * above)
+    (λ s. length s.registers ≤ 2 * above)
     (λ e. omega (
       arith,
-      depth_most left (left_period f) v (half_of 0 n group),
+      depth_most left (left_period halves) v (half_of 0 n group),
       le-max_left (halving_height left) (halving_height right),
     ))
-    (λ e. cond_both (nat_lt v (n + m)) in_right (zero_state 0) (λ s. length s.registers ≤ 4 * above)
+    (λ e. cond_both (nat_lt v (n + m)) in_right (zero_state 0) (λ s. length s.registers ≤ 2 * above)
     (λ e. omega (
       arith,
-      depth_most right (right_period f) (v - n) (half_of n m group),
+      depth_most right (right_period halves) (v - n) (half_of n m group),
       le-max_right (halving_height left) (halving_height right),
     ))
     (λ e. omega arith)) in
@@ -217,38 +191,32 @@ positive_chosen : (b : Bool) (these those : Fields) → ArePositive these → Ar
 positive_chosen true these those here there = here
 positive_chosen false these those here there = there
 
-positive_over : (f modulus : ℕ) (below : Fields) → 0 < modulus → ArePositive below
-    → ArePositive (record {
-      base = below.base;
-      moduli = modulus ∷ instructions f ∷ left_period f ∷ 1 ∷ below.moduli;
-    })
-positive_over f modulus below some positive = (
+positive_over : (modulus period : ℕ) (below : Fields) → 0 < modulus → 0 < period
+    → ArePositive below
+    → ArePositive (record { base = below.base; moduli = modulus ∷ period ∷ below.moduli })
+positive_over modulus period below some more positive = (
   positive.0,
-  All-cons (λ modulus. 0 < modulus) modulus
-      (instructions f ∷ left_period f ∷ 1 ∷ below.moduli) some
-      (All-cons (λ modulus. 0 < modulus) (instructions f)
-      (left_period f ∷ 1 ∷ below.moduli) (omega arith)
-      (All-cons (λ modulus. 0 < modulus) (left_period f) (1 ∷ below.moduli) (omega arith)
-      (All-cons (λ modulus. 0 < modulus) 1 below.moduli (omega arith) positive.1))),
+  All-cons (λ modulus. 0 < modulus) modulus (period ∷ below.moduli) some
+      (All-cons (λ modulus. 0 < modulus) period below.moduli more positive.1),
 )
 
 pub positive_fields : (tree : Halving) (modulus v : ℕ) → 0 < modulus
     → ArePositive (fields_in tree modulus v)
 positive_fields One modulus v some = (some, All-nil (λ modulus. 0 < modulus))
 positive_fields (Split left right spares) modulus v some =
-    let f : ℕ = faults_of (halves_of left right spares) in
+    let halves : Halves = halves_of left right spares in
     let n : ℕ = halving_nodes left in
     let m : ℕ = halving_nodes right in
     let none : Fields = record { base = 1; moduli = [] } in
-    let left_fields : Fields = fields_in left (left_period f) v in
-    let right_fields : Fields = fields_in right (right_period f) (v - n) in
-    positive_over f modulus
+    let left_fields : Fields = fields_in left (left_period halves) v in
+    let right_fields : Fields = fields_in right (right_period halves) (v - n) in
+    positive_over modulus (left_period halves)
     (cond (nat_lt v n) left_fields (cond (nat_lt v (n + m)) right_fields none))
-    some
+    some (omega arith)
     (positive_chosen (nat_lt v n) left_fields (cond (nat_lt v (n + m)) right_fields none)
-    (positive_fields left (left_period f) v (omega arith))
+    (positive_fields left (left_period halves) v (omega arith))
     (positive_chosen (nat_lt v (n + m)) right_fields none
-    (positive_fields right (right_period f) (v - n) (omega arith))
+    (positive_fields right (right_period halves) (v - n) (omega arith))
     (omega arith, All-nil (λ modulus. 0 < modulus))))
 
 -- the zero state is a state of each node

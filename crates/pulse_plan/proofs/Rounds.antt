@@ -1,25 +1,23 @@
--- The steps of level states, as histories: what each correct node hears, and how its tests, ages
--- and instructions go from round to round.
-use Rattle.std.proofs.Common.{◌≡◌, ℕ, ◌+◌, ◌*◌, ◌/◌, ◌%◌, ◌<◌, ◌≤◌, Bool, true, false, not, ◌&&◌}
-use Rattle.std.proofs.Common.{◌||◌, eqb}
-use Rattle.std.proofs.Common.{[], count_by, leb, ltb, refl, sym, ap, ◌∙◌, None, arith}
+-- The steps of level states, as histories: what each correct node hears, and how what it saw, its
+-- trust and its instructions go from round to round.
+use Rattle.std.proofs.Common.{◌≡◌, ℕ, ◌+◌, ◌%◌, ◌<◌, ◌≤◌, Bool, true, false, not, ◌&&◌, [], leb}
+use Rattle.std.proofs.Common.{ltb, refl, sym, ap, ◌∙◌, subst, None, arith, mod-lt}
 use Rattle.std.proofs.lemmas.Bool.{false≢true, leb-true, ltb-true, le-leb, lt-ltb, and_parts}
 use Rattle.std.proofs.lemmas.Bool.{and_from}
 use Rattle.std.proofs.lemmas.Bool.{not-true}
 use Rattle.std.proofs.lemmas.List.{length-map, get_or-map}
 use Rattle.counting.specs.Places.{places}
 use Rattle.phase_king.specs.Hearing.{Obeys}
-use Rattle.pulse_plan.specs.Halves.{Halves, faults_of, left_period, right_period}
-use Rattle.pulse_plan.specs.LevelStates.{LevelState, zero_level_state, level_state_after}
-use Rattle.pulse_plan.specs.LevelStates.{says_left}
-use Rattle.pulse_plan.specs.LevelStates.{says_right, echoed}
-use Rattle.pulse_plan.specs.LevelStates.{backed, fires_left, fires_right, busy, begun}
-use Rattle.pulse_plan.specs.LevelStates.{next_instruction, values_of}
+use Rattle.pulse_plan.specs.Halves.{Halves, Halved, faults_of, left_period, right_period}
+use Rattle.pulse_plan.specs.Halves.{right_share}
+use Rattle.pulse_plan.specs.LevelStates.{LevelState, zero_level_state, level_state_after, shown}
+use Rattle.pulse_plan.specs.LevelStates.{backed, trusts, follows_left, instruction_of, king_of}
+use Rattle.pulse_plan.specs.LevelStates.{values_of}
 use Rattle.pulse_plan.specs.Hearing.{Heard, Hears, LevelStatesStep}
-use Rattle.pulse_plan.specs.Level.{HalfCounts}
-use Rattle.pulse_plan.proofs.Heard.{graded, source, full, sees_zero, sees_no_other}
-use Rattle.pulse_plan.proofs.Apart.{IsCorrect, Grades, Ages}
-use Rattle.pulse_plan.proofs.Pulses.{Shows}
+use Rattle.pulse_plan.specs.Level.{LeftCounts, RightCounts}
+use Rattle.pulse_plan.proofs.Correct.{IsCorrect}
+use Rattle.pulse_plan.proofs.Heard.{one_backed, all_back, is_shown}
+use Rattle.pulse_plan.proofs.Trust.{Trust}
 
 nothing : Heard
 nothing = record { left = []; right = []; states = [] }
@@ -82,33 +80,67 @@ module _ (halves : Halves) (next : ℕ → ℕ) (faulty : ℕ → Bool) (t last 
   unfolding Steps
   step r v lo hi c = (goes_on r v lo hi c).1
 
+  -- ---- what was seen, and trust
+
+  pub back : ℕ → ℕ → Bool
+  back r v = backed halves (states r v) (heard r v).states
+
+  left : ℕ → ℕ → ℕ
+  left r v = shown (left_period halves) (heard r v).left
+
+  pub right : ℕ → ℕ → ℕ
+  right r v = shown (right_period halves) (heard r v).right
+
+  pub follows : ℕ → ℕ → Bool
+  follows r v = follows_left halves (states r v) (back r v)
+
+  pub follows_is : (r v : ℕ) → follows r v
+      ≡ (back r v && ((states r v).trusted && leb (right_share halves) (states r v).seen))
+  unfolding follows
+  follows_is r v = refl
+
+  seen_goes : (r v : ℕ) → t ≤ r → r < last → IsCorrect halves.nodes faulty v
+      → (states (r + 1) v).seen ≡ left r v
+  unfolding left
+  seen_goes r v lo hi c = ap (λ (p : LevelState). p.seen) (step r v lo hi c)
+
+  trusted_goes : (r v : ℕ) → t ≤ r → r < last → IsCorrect halves.nodes faulty v
+      → (states (r + 1) v).trusted ≡ trusts (states r v) (left r v) (back r v)
+  unfolding left back
+  trusted_goes r v lo hi c = ap (λ (p : LevelState). p.trusted) (step r v lo hi c)
+
+  pub trust : Halved halves → places faulty halves.nodes ≤ faults_of halves
+      → Trust halves.nodes faulty t last (left_period halves) (λ r v. (states r v).seen)
+      (λ r v. (states r v).trusted) back
+  unfolding back left
+  trust is few = record {
+    below = λ r v lo hi c. subst (λ x. x < left_period halves) (sym (seen_goes r v lo hi c))
+        (mod-lt _ (omega arith));
+    goes = λ r v lo hi c. trusted_goes r v lo hi c
+        ∙ ap (λ x. trusts (states r v) x (back r v)) (sym (seen_goes r v lo hi c));
+    one = λ r v u lo hi c d. one_backed halves.nodes (faults_of halves) faulty is.quorum few
+        (states r) (states r v).seen (states r u).seen (heard r v).states (heard r u).states
+        (hears r v lo hi c).group (hears r u lo hi d).group;
+    all = λ r v lo hi c same. all_back halves.nodes (faults_of halves) faulty is.quorum few
+        (states r) (states r v).seen (heard r v).states (hears r v lo hi c).group
+        (λ w lt ok. same w (record { below = lt; ok = ok }));
+  }
+
   -- ---- registers and instructions
 
-  pub left_fire : ℕ → ℕ → Bool
-  left_fire r v = fires_left halves (states r v) (heard r v).states
+  pub instruction : ℕ → ℕ → ℕ
+  instruction r v = instruction_of halves (follows r v) (states r v).seen (right r v)
 
-  pub right_fire : ℕ → ℕ → Bool
-  right_fire r v = fires_right halves (states r v) (heard r v).states
-
-  pub fire : ℕ → ℕ → Bool
-  fire r v = left_fire r v || right_fire r v
-
-  pub instruction_goes : (r v : ℕ) → t ≤ r → r < last → IsCorrect halves.nodes faulty v
-      → (states (r + 1) v).instruction
-      ≡ next_instruction (faults_of halves) (fire r v) (states r v).instruction
-  unfolding fire left_fire right_fire
-  instruction_goes r v lo hi c = ap (λ (p : LevelState). p.instruction) (step r v lo hi c)
-
-  pub begun_by_left_goes : (r v : ℕ) → t ≤ r → r < last → IsCorrect halves.nodes faulty v
-      → (states (r + 1) v).begun_by_left
-      ≡ begun (left_fire r v) (right_fire r v) (states r v).begun_by_left
-  unfolding left_fire right_fire
-  begun_by_left_goes r v lo hi c = ap (λ (p : LevelState). p.begun_by_left) (step r v lo hi c)
+  pub instruction_is : (r v : ℕ) → instruction r v
+      ≡ instruction_of halves (follows r v) (states r v).seen (right r v)
+  unfolding instruction
+  instruction_is r v = refl
 
   pub obey : (r v : ℕ) → t ≤ r → r < last → v < halves.nodes → faulty v ≡ false
       → Obeys halves.nodes (faults_of halves) next faulty (λ u. (states r u).register)
-      ((states r v).instruction % 3) ((states r v).instruction / 3) (states r v).register
+      (instruction r v % 3) (king_of halves (follows r v) (instruction r v)) (states r v).register
       (states (r + 1) v).register
+  unfolding instruction follows right back
   obey r v lo hi lt ok =
       let c : IsCorrect halves.nodes faulty v = record { below = lt; ok = ok } in
       let h = (hears r v lo hi c).group in
@@ -124,115 +156,28 @@ module _ (halves : Halves) (next : ℕ → ℕ) (faulty : ℕ → Bool) (t last 
         step = ap (λ (p : LevelState). p.register) (step r v lo hi c);
       }
 
-  -- ---- the left half
-
-  pub saw_left : ℕ → ℕ → Bool
-  saw_left r v = (states r v).saw_left
-
-  pub echo_left : ℕ → ℕ → Bool
-  echo_left r v = echoed halves.nodes (faults_of halves) (says_left (heard r v).states)
-
-  pub back_left : ℕ → ℕ → Bool
-  back_left r v = backed halves.nodes (faults_of halves) (says_left (heard r v).states)
-
-  pub ages_left : Ages halves.nodes faulty t last (left_period (faults_of halves)) echo_left
-      (λ r v. (states r v).age)
-  unfolding echo_left
-  ages_left = record { goes = λ r v lo hi c. ap (λ (p : LevelState). p.age) (step r v lo hi c) }
-
-  -- ---- the right half
-
-  pub saw_right : ℕ → ℕ → Bool
-  saw_right r v = (states r v).saw_right
-
-  pub echo_right : ℕ → ℕ → Bool
-  echo_right r v = echoed halves.nodes (faults_of halves) (says_right (heard r v).states)
-
-  pub back_right : ℕ → ℕ → Bool
-  back_right r v = backed halves.nodes (faults_of halves) (says_right (heard r v).states)
-
-  -- a node fires for one half or the other
-  pub fire_is : (r v : ℕ) → fire r v ≡ left_fire r v || right_fire r v
-  unfolding fire
-  fire_is r v = refl
-
-  pub left_fire_is : (r v : ℕ)
-      → left_fire r v ≡ back_left r v && eqb (states r v).age (left_period (faults_of halves))
-  unfolding left_fire back_left
-  left_fire_is r v = refl
-
-  pub right_fire_is : (r v : ℕ)
-      → right_fire r v ≡ back_right r v && not (busy (faults_of halves) (states r v))
-  unfolding right_fire back_right
-  right_fire_is r v = refl
-
-  -- ---- the grades of both
-
-  module _ (quorum : 3 * faults_of halves < halves.nodes)
-      (few : places faulty halves.nodes ≤ faults_of halves) where
-    grades_of : (says : LevelState → Bool)
-        → Grades halves.nodes faulty t last (λ r v. says (states r v))
-        (λ r v. echoed halves.nodes (faults_of halves) (count_by says (heard r v).states))
-        (λ r v. backed halves.nodes (faults_of halves) (count_by says (heard r v).states))
-    grades_of says = record {
-      carried =
-          λ r v u lo hi vc uc back. graded halves.nodes (faults_of halves) faulty quorum few says
-          (states r) (heard r v).states (heard r u).states (hears r v lo hi vc).group
-          (hears r u lo hi uc).group back;
-      source = λ r v lo hi c echo. let s =
-          source halves.nodes (faults_of halves) faulty quorum few says (states r)
-          (heard r v).states (hears r v lo hi c).group echo in
-          (s.0, record { below = s.1; ok = s.2 }, s.3);
-      full = λ r v lo hi c all. full halves.nodes (faults_of halves) faulty quorum few says
-          (states r) (heard r v).states (hears r v lo hi c).group
-          (λ w lt ok. all w (record { below = lt; ok = ok }));
-    }
-
-    pub grades_left : Grades halves.nodes faulty t last saw_left echo_left back_left
-    unfolding saw_left echo_left back_left
-    grades_left = grades_of (λ p. p.saw_left)
-
-    pub grades_right : Grades halves.nodes faulty t last saw_right echo_right back_right
-    unfolding saw_right echo_right back_right
-    grades_right = grades_of (λ p. p.saw_right)
-
   -- ---- a half that counts
 
-  pub shows_left : 3 * halves.left_faults < halves.left_nodes → (from : ℕ) → t ≤ from
-      → (counts : HalfCounts 0 halves.left_nodes halves.left_faults (left_period (faults_of halves))
-      faulty from last outputs)
-      → Shows halves.nodes faulty from last (left_period (faults_of halves)) saw_left counts.output
-  unfolding saw_left
-  shows_left quorum from later counts = record {
-    starts = counts.starts;
-    grows = counts.grows;
-    zero_seen = λ r v lo hi c e. ap (λ (p : LevelState). p.saw_left) (step r v (omega arith) hi c)
-        ∙ sees_zero 0 halves.left_nodes halves.left_faults faulty quorum counts.few (outputs r)
-        (heard r v).left (hears r v (omega arith) hi c).left (counts.output r)
-        (λ u lt ok. counts.common r u lo (omega arith) lt ok) e;
-    no_other = λ r v lo hi c e.
-        sees_no_other 0 halves.left_nodes halves.left_faults faulty quorum counts.few (outputs r)
-        (heard r v).left (hears r v (omega arith) hi c).left (counts.output r)
-        (λ u lt ok. counts.common r u lo (omega arith) lt ok)
-        (sym (ap (λ (p : LevelState). p.saw_left) (step r v (omega arith) hi c)) ∙ e);
-  }
+  -- what the left half shows is seen a round later
+  pub left_seen : Halved halves → (from : ℕ) → t ≤ from
+      → (counts : LeftCounts halves faulty from last outputs) → (r v : ℕ) → from ≤ r → r < last
+      → IsCorrect halves.nodes faulty v → counts.output r < left_period halves
+      → (states (r + 1) v).seen ≡ counts.output r
+  unfolding left
+  left_seen is from later counts r v lo hi c below =
+      seen_goes r v (omega arith) hi c
+      ∙ is_shown 0 halves.left_nodes halves.left_faults (left_period halves) faulty is.left
+      counts.few (outputs r) (heard r v).left (hears r v (omega arith) hi c).left
+      (counts.output r) below (λ u lt ok. counts.common r u lo (omega arith) lt ok)
 
-  pub shows_right : 3 * halves.right_faults < halves.right_nodes → (from : ℕ) → t ≤ from
-      → (counts : HalfCounts halves.left_nodes halves.right_nodes halves.right_faults
-      (right_period (faults_of halves)) faulty from last outputs)
-      → Shows halves.nodes faulty from last (right_period (faults_of halves)) saw_right
-      counts.output
-  unfolding saw_right
-  shows_right quorum from later counts = record {
-    starts = counts.starts;
-    grows = counts.grows;
-    zero_seen = λ r v lo hi c e. ap (λ (p : LevelState). p.saw_right) (step r v (omega arith) hi c)
-        ∙ sees_zero halves.left_nodes halves.right_nodes halves.right_faults faulty quorum
-        counts.few (outputs r) (heard r v).right (hears r v (omega arith) hi c).right
-        (counts.output r) (λ u lt ok. counts.common r u lo (omega arith) lt ok) e;
-    no_other = λ r v lo hi c e.
-        sees_no_other halves.left_nodes halves.right_nodes halves.right_faults faulty quorum
-        counts.few (outputs r) (heard r v).right (hears r v (omega arith) hi c).right
-        (counts.output r) (λ u lt ok. counts.common r u lo (omega arith) lt ok)
-        (sym (ap (λ (p : LevelState). p.saw_right) (step r v (omega arith) hi c)) ∙ e);
-  }
+  -- what the right half shows is the instruction now
+  pub right_heard : Halved halves → (from : ℕ) → t ≤ from
+      → (counts : RightCounts halves faulty from last outputs) → (r v : ℕ) → from ≤ r → r < last
+      → IsCorrect halves.nodes faulty v → counts.output r < right_period halves
+      → right r v ≡ counts.output r
+  unfolding right
+  right_heard is from later counts r v lo hi c below =
+      is_shown halves.left_nodes halves.right_nodes halves.right_faults (right_period halves)
+      faulty is.right counts.few (outputs r) (heard r v).right
+      (hears r v (omega arith) hi c).right (counts.output r) below
+      (λ u lt ok. counts.common r u lo (omega arith) lt ok)

@@ -1,22 +1,22 @@
 -- Trees settle, their configuration at the bound is locked, and locked ones stay so.
-use Rattle.std.proofs.Common.{ℕ, ◌-◌, ◌≤◌, List, [], length, unwrap_or, refl, sym, ap, ◌∙◌}
-use Rattle.std.proofs.Common.{append-nil, arith}
+use Rattle.std.proofs.Common.{ℕ, ◌-◌, ◌≤◌, List, length, unwrap_or, refl, ap}
+use Rattle.std.proofs.Common.{arith}
 use Rattle.sync_types.specs.declared.states.Reg.{Reg}
 use Rattle.sync_types.specs.States.{State}
 use Rattle.counting.specs.Places.{places}
 use Rattle.construction.specs.Steps.{state_of}
 use Rattle.construction.specs.Runs.{is_in, configuration}
 use Rattle.counter_core.proofs.ListsAndPlaces.{places_of_ids}
-use Rattle.pulse_plan.specs.Halves.{faults_of, left_period, right_period}
-use Rattle.pulse_plan.specs.Level.{OneHalfIsSound, PulsesSettle, LockedStaysLocked}
+use Rattle.pulse_plan.specs.Halves.{Halves, left_period, right_period}
+use Rattle.pulse_plan.specs.Level.{OneHalfIsSound, HalvesSettle, LockedStaysLocked}
 use Rattle.pulse_plan.specs.Halvings.{Halving, One, Split, halving_nodes, halving_faults}
 use Rattle.pulse_plan.specs.Halvings.{halving_bound, halves_of}
-use Rattle.pulse_plan.specs.Registers.{level_state_of, with_level_state}
 use Rattle.machines.specs.Machines.{Run, CountsFrom, IsToleratedBy}
 use Rattle.pulse_plan.specs.Runs.{machine_of}
 use Rattle.pulse_plan.proofs.Numbers.{three_faults, faults_of_halving, nodes_of_halving}
 use Rattle.pulse_plan.proofs.Numbers.{bound_of_halving}
-use Rattle.pulse_plan.proofs.LevelStates.{level_state_back, state_back}
+use Rattle.pulse_plan.proofs.Trees.{ten_each}
+use Rattle.pulse_plan.proofs.LevelStates.{state_back}
 use Rattle.pulse_plan.proofs.Ranges.{zero_is_state, step_is_state}
 use Rattle.pulse_plan.specs.TreeLaws.{HasQuorum, AreFast, LevelStatesAreRegisters}
 use Rattle.pulse_plan.specs.TreeLaws.{ZeroIsInRange}
@@ -34,17 +34,12 @@ halvings_are_fast f spares = record {
   faults = faults_of_halving f spares;
   nodes = nodes_of_halving f spares;
   bound = bound_of_halving f spares;
+  each = ten_each f spares;
 }
 
 pub level_states_are_registers : LevelStatesAreRegisters
 level_states_are_registers = record {
-  read = λ f level_state state is. record {
-    first = ap
-        (λ (registers : List Reg). level_state_of f (record { x = state.x; registers = registers }))
-        (sym (append-nil (with_level_state f level_state state).registers))
-        ∙ level_state_back f level_state state [] is;
-    rest = refl;
-  };
+  read = λ level_state state. record { first = refl; rest = refl };
   written = state_back;
 }
 
@@ -87,7 +82,7 @@ one_stays modulus two faulty run from borne is =
       };
     }
 
-module _ (one_half : OneHalfIsSound) (settle : PulsesSettle) where
+module _ (one_half : OneHalfIsSound) (settle : HalvesSettle) where
   pub every_halving_settles : EveryHalvingSettles
   every_halving_settles tree modulus two faulty run borne is =
       counts_over tree modulus faulty run
@@ -99,12 +94,12 @@ module _ (one_half : OneHalfIsSound) (settle : PulsesSettle) where
   locks_at_bound One modulus two faulty run borne is long = tt
   locks_at_bound (Split left right spares) modulus two faulty run borne is long =
       let tree : Halving = Split left right spares in
-      let f : ℕ = faults_of (halves_of left right spares) in
+      let halves : Halves = halves_of left right spares in
       let stays = locked_over left right spares modulus (is_in faulty) (length run - 1)
       (λ t v. state_of (configuration run t) v) (few_places tree faulty borne.few)
       (run_in tree modulus faulty (omega (arith, two)) run is) one_half settle
-      (tree_settles one_half settle left (left_period f))
-      (tree_settles one_half settle right (right_period f)) in
+      (tree_settles one_half settle left (left_period halves))
+      (tree_settles one_half settle right (right_period halves)) in
       record {
         value = stays.value (halving_bound tree);
         each = stays.locked (halving_bound tree) (omega arith) (omega arith);

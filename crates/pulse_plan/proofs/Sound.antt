@@ -1,5 +1,5 @@
 -- The machine of an accepted plan is sound.
-use Rattle.std.proofs.Common.{◌≡◌, ◌<◌, ◌≤◌, arith}
+use Rattle.std.proofs.Common.{◌≡◌, arith}
 use Rattle.pulse_plan.specs.Halvings.{halving_nodes}
 use Rattle.pulse_plan.proofs.TreeSound.{machines_are_sound}
 use Rattle.pulse_plan.specs.Plans.{PulseNumbers, IsAccepted, tree_of}

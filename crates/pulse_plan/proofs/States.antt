@@ -12,7 +12,7 @@ use Rattle.std.proofs.lemmas.List.Elements.{All-get_or}
 use Rattle.sync_types.specs.States.{State, zero_register, register_at}
 use Rattle.construction.specs.Runs.{IsRegister}
 use Rattle.state_codec.specs.Ranges.{IsField, InRange}
-use Rattle.pulse_plan.specs.Halves.{faults_of, left_period, right_period}
+use Rattle.pulse_plan.specs.Halves.{Halves, left_period, right_period}
 use Rattle.pulse_plan.specs.Halvings.{Halving, One, Split, halving_nodes, halving_height}
 use Rattle.pulse_plan.specs.Halvings.{halves_of}
 use Rattle.pulse_plan.specs.Steps.{halving_depth}
@@ -25,26 +25,26 @@ pub fields_most : (tree : Halving) (modulus v : ℕ)
     → length (fields_in tree modulus v).moduli ≤ halving_depth tree
 fields_most One modulus v = omega arith
 fields_most (Split left right spares) modulus v =
-    let f : ℕ = faults_of (halves_of left right spares) in
+    let halves : Halves = halves_of left right spares in
     let n : ℕ = halving_nodes left in
     let m : ℕ = halving_nodes right in
     let none : Fields = record { base = 1; moduli = [] } in
-    let in_left : Fields = fields_in left (left_period f) v in
-    let in_right : Fields = fields_in right (right_period f) (v - n) in
+    let in_left : Fields = fields_in left (left_period halves) v in
+    let in_right : Fields = fields_in right (right_period halves) (v - n) in
     let rest : Fields = cond (nat_lt v n) in_left (cond (nat_lt v (n + m)) in_right none) in
     let above : ℕ = max (halving_height left) (halving_height right) in
-    let most : length rest.moduli ≤ 4 * above =
+    let most : length rest.moduli ≤ 2 * above =
     cond_both (nat_lt v n) in_left (cond (nat_lt v (n + m)) in_right none)
-    (λ s. length s.moduli ≤ 4 * above)
+    (λ s. length s.moduli ≤ 2 * above)
     (λ e. omega (
       arith,
-      fields_most left (left_period f) v,
+      fields_most left (left_period halves) v,
       le-max_left (halving_height left) (halving_height right),
     ))
-    (λ e. cond_both (nat_lt v (n + m)) in_right none (λ s. length s.moduli ≤ 4 * above)
+    (λ e. cond_both (nat_lt v (n + m)) in_right none (λ s. length s.moduli ≤ 2 * above)
     (λ e. omega (
       arith,
-      fields_most right (right_period f) (v - n),
+      fields_most right (right_period halves) (v - n),
       le-max_right (halving_height left) (halving_height right),
     ))
     (λ e. omega arith)) in

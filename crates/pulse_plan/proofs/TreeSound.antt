@@ -6,7 +6,7 @@ use Rattle.std.specs.Prelude.{nat_lt}
 use Rattle.std.proofs.lemmas.List.Elements.{All-nil, All-cons, All-append, All-replicate}
 use Rattle.sync_types.specs.States.{State}
 use Rattle.construction.specs.Runs.{configuration}
-use Rattle.pulse_plan.specs.Halves.{faults_of, instructions, left_period, right_period}
+use Rattle.pulse_plan.specs.Halves.{Halves, faults_of, left_period, right_period}
 use Rattle.pulse_plan.proofs.Settles as level
 use Rattle.pulse_plan.specs.Halvings.{Halving, One, Split, halving_nodes}
 use Rattle.pulse_plan.specs.Halvings.{halves_of}
@@ -36,27 +36,26 @@ few_fields : (tree : Halving) (modulus v : ℕ) → modulus ≤ 2 ^ 40 → halvi
     → AreFew (fields_in tree modulus v)
 few_fields One modulus v most few = (most, All-nil (λ modulus. modulus ≤ 2 ^ 40))
 few_fields (Split left right spares) modulus v most few =
-    let f : ℕ = faults_of (halves_of left right spares) in
+    let halves : Halves = halves_of left right spares in
     let n : ℕ = halving_nodes left in
     let m : ℕ = halving_nodes right in
     let none : Fields = record { base = 1; moduli = [] } in
-    let in_left : Fields = fields_in left (left_period f) v in
-    let in_right : Fields = fields_in right (right_period f) (v - n) in
-    let few_faults : 3 * f < 256 = omega (arith, three_faults (Split left right spares)) in
+    let in_left : Fields = fields_in left (left_period halves) v in
+    let in_right : Fields = fields_in right (right_period halves) (v - n) in
+    let few_faults : 3 * faults_of halves < 256 =
+    omega (arith, three_faults (Split left right spares)) in
     let P : ℕ → Type 0 = λ modulus. modulus ≤ 2 ^ 40 in
     let below : AreFew (cond (nat_lt v n) in_left (cond (nat_lt v (n + m)) in_right none)) =
     few_chosen (nat_lt v n) in_left (cond (nat_lt v (n + m)) in_right none)
-    (few_fields left (left_period f) v (omega arith) (omega arith))
+    (few_fields left (left_period halves) v (omega arith) (omega arith))
     (few_chosen (nat_lt v (n + m)) in_right none
-    (few_fields right (right_period f) (v - n) (omega arith) (omega arith))
+    (few_fields right (right_period halves) (v - n) (omega arith) (omega arith))
     (omega arith, All-nil P)) in
     let rest : List ℕ =
     (cond (nat_lt v n) in_left (cond (nat_lt v (n + m)) in_right none)).moduli in (
       below.0,
-      All-cons P modulus (instructions f ∷ left_period f ∷ 1 ∷ rest) most
-          (All-cons P (instructions f) (left_period f ∷ 1 ∷ rest) (omega arith)
-          (All-cons P (left_period f) (1 ∷ rest) (omega arith)
-          (All-cons P 1 rest (omega arith) below.1))),
+      All-cons P modulus (left_period halves ∷ rest) most
+          (All-cons P (left_period halves) rest (omega arith) below.1),
     )
 
 -- ---- locks
@@ -102,10 +101,10 @@ machines_are_sound tree modulus two most few =
           (step_is_state tree modulus v heard (omega arith));
       further = ignores_further tree modulus;
       settles =
-          laws.every_halving_settles level.one_half_is_sound level.pulses_settle tree modulus two;
+          laws.every_halving_settles level.one_half_is_sound level.halves_settle tree modulus two;
       locks = λ faulty run borne is long.
           locked_here tree faulty (configuration run (halving_bound tree))
-          (laws.locks_at_bound level.one_half_is_sound level.pulses_settle tree modulus two faulty
+          (laws.locks_at_bound level.one_half_is_sound level.halves_settle tree modulus two faulty
           run
           borne is long);
       stays = λ faulty run borne is from lt locked.

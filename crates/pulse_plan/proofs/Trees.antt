@@ -1,12 +1,14 @@
 -- The tree of so many faults is split into those of its halves, and what grows with the faults.
-use Rattle.std.proofs.Common.{◌≡◌, ℕ, zero, suc, ◌+◌, ◌-◌, ◌*◌, ◌/◌, ◌<◌, ◌≤◌, max, refl, ap, ap₂}
-use Rattle.std.proofs.Common.{◌∙◌, arith}
+use Rattle.std.proofs.Common.{◌≡◌, ℕ, zero, suc, ◌+◌, ◌-◌, ◌*◌, ◌<◌, ◌≤◌, refl, ap, ap₂}
+use Rattle.std.proofs.Common.{◌∙◌, ⊎_elim, arith}
 use Rattle.std.proofs.Math.Nat.{max-le}
-use Rattle.pulse_plan.specs.Halves.{left_period, right_period}
-use Rattle.pulse_plan.specs.Halvings.{Split, halving_nodes, halving_faults}
+use Rattle.std.proofs.lemmas.Bool.{cases_lt}
+use Rattle.pulse_plan.specs.Halves.{instructions, right_wait}
+use Rattle.pulse_plan.specs.Halvings.{Halving, Split, halving_nodes}
 use Rattle.pulse_plan.specs.Halvings.{halving_height, halving_bound, bound_over}
-use Rattle.pulse_plan.specs.Halvings.{halved_within, halving_of}
-use Rattle.pulse_plan.proofs.Numbers.{faults_of_halving, nodes_of_halving}
+use Rattle.pulse_plan.specs.Halvings.{halved_within, halving_of, left_part, right_part}
+use Rattle.pulse_plan.proofs.Numbers.{faults_of_halving, nodes_of_halving, of_faults}
+use Rattle.pulse_plan.proofs.Numbers.{fewer_turns, same_turns}
 
 -- each height that is enough gives the same tree
 pub same_within : (h k f spares : ℕ) → f ≤ h → f ≤ k
@@ -19,21 +21,20 @@ same_within (suc h) zero (suc f) spares l m = absurd (omega arith)
 same_within (suc h) (suc k) zero spares l m = refl
 same_within (suc h) (suc k) (suc f) spares l m =
     ap₂ (λ left right. Split left right spares)
-    (same_within h k ((f + 1) / 3) 0 (omega arith) (omega arith))
-    (same_within h k (f - (f + 1) / 3) 0 (omega arith) (omega arith))
+    (same_within h k (left_part (suc f)) 0 (omega arith) (omega arith))
+    (same_within h k (right_part (suc f)) 0 (omega arith) (omega arith))
 
 -- the halves of a tree
 pub split_of : (f spares : ℕ) → 0 < f
-    → halving_of f spares ≡ Split (halving_of (f / 3) 0) (halving_of (f - 1 - f / 3) 0) spares
+    → halving_of f spares
+    ≡ Split (halving_of (left_part f) 0) (halving_of (right_part f) 0) spares
 split_of zero spares some = absurd (omega arith)
 split_of (suc f) spares some =
-    let left : (f + 1) / 3 ≡ suc f / 3 = omega arith in
-    let right : f - (f + 1) / 3 ≡ suc f - 1 - suc f / 3 = omega arith in
-    ap₂ (λ l r. Split l r spares)
-    (same_within f ((f + 1) / 3) ((f + 1) / 3) 0 (omega arith) (omega arith)
-    ∙ ap (λ n. halving_of n 0) left)
-    (same_within f (f - (f + 1) / 3) (f - (f + 1) / 3) 0 (omega arith) (omega arith)
-    ∙ ap (λ n. halving_of n 0) right)
+    let l : ℕ = left_part (suc f) in
+    let r : ℕ = right_part (suc f) in
+    ap₂ (λ left right. Split left right spares)
+    (same_within f l l 0 (omega arith) (omega arith))
+    (same_within f r r 0 (omega arith) (omega arith))
 
 -- a tree without spares of its own has this many nodes
 pub nodes_of_half : (f : ℕ) → halving_nodes (halving_of f 0) ≡ 3 * f + 1
@@ -55,8 +56,8 @@ taller_within zero m n d e le = omega arith
 taller_within (suc h) zero n d e le = omega arith
 taller_within (suc h) (suc m) zero d e le = absurd (omega arith)
 taller_within (suc h) (suc m) (suc n) d e le =
-    let left = taller_within h ((m + 1) / 3) ((n + 1) / 3) 0 0 (omega arith) in
-    let right = taller_within h (m - (m + 1) / 3) (n - (n + 1) / 3) 0 0 (omega arith) in
+    let left = taller_within h (left_part (suc m)) (left_part (suc n)) 0 0 (omega arith) in
+    let right = taller_within h (right_part (suc m)) (right_part (suc n)) 0 0 (omega arith) in
     omega arith
 
 -- a tree of more faults is no lower
@@ -69,10 +70,10 @@ taller m n d e le =
 
 -- the right half tells how high a tree is
 pub height_of : (f spares : ℕ) → 0 < f
-    → halving_height (halving_of f spares) ≡ halving_height (halving_of (f - 1 - f / 3) 0) + 1
+    → halving_height (halving_of f spares) ≡ halving_height (halving_of (right_part f) 0) + 1
 height_of f spares some =
     let split = ap halving_height (split_of f spares some) in
-    let less = taller (f / 3) (f - 1 - f / 3) 0 0 (omega arith) in
+    let less = taller (left_part f) (right_part f) 0 0 (omega arith) in
     omega (arith, split, less)
 
 -- ---- bounds
@@ -80,22 +81,75 @@ height_of f spares some =
 -- the bound is that over the halves
 pub bound_of_halves : (f spares : ℕ) → 0 < f
     → halving_bound (halving_of f spares)
-    ≡ bound_over f (halving_bound (halving_of (f / 3) 0))
-    (halving_bound (halving_of (f - 1 - f / 3) 0))
+    ≡ bound_over (of_faults (left_part f) (right_part f))
+    (halving_bound (halving_of (left_part f) 0)) (halving_bound (halving_of (right_part f) 0))
 bound_of_halves f spares some =
-    let left = halving_of (f / 3) 0 in
-    let right = halving_of (f - 1 - f / 3) 0 in
-    let faults : halving_faults left + halving_faults right + 1 ≡ f =
-    omega (arith, faults_of_halving (f / 3) 0, faults_of_halving (f - 1 - f / 3) 0) in
+    let left : Halving = halving_of (left_part f) 0 in
+    let right : Halving = halving_of (right_part f) 0 in
     ap halving_bound (split_of f spares some)
-    ∙ ap (λ g. bound_over g (halving_bound left) (halving_bound right)) faults
+    ∙ ap₂ (λ l r. bound_over (of_faults l r) (halving_bound left) (halving_bound right))
+    (faults_of_halving (left_part f) 0) (faults_of_halving (right_part f) 0)
 
--- a level of more faults, over halves that are no faster, is no faster
-slower_over : (f g l m r s : ℕ) → f ≤ g → l ≤ m → r ≤ s → bound_over f l r ≤ bound_over g m s
-slower_over f g l m r s le left right =
-    let most : max (l + 2 * left_period f) (r + 3 * right_period f)
-    ≤ max (m + 2 * left_period g) (s + 3 * right_period g) = max-le (omega arith) (omega arith) in
-    omega arith
+-- ten rounds for each fault and each level
+ten_over : (f left right height : ℕ) → 0 < f → left ≤ 10 * (left_part f + height)
+    → right ≤ 10 * (right_part f + height)
+    → bound_over (of_faults (left_part f) (right_part f)) left right ≤ 10 * (f + (height + 1))
+ten_over f left right height some l r =
+    max-le (omega arith) (⊎_elim
+    (λ less. omega (arith, fewer_turns (left_part f) (right_part f) less))
+    (λ more. let same : left_part f ≡ right_part f = omega arith in
+    omega (arith, same_turns (left_part f) (right_part f) same))
+    (cases_lt (left_part f) (right_part f)))
+
+ten_within : (high f spares : ℕ) → f ≤ high
+    → halving_bound (halving_of f spares) ≤ 10 * (f + halving_height (halving_of f spares))
+ten_within high zero spares le = omega arith
+ten_within zero (suc f) spares le = absurd (omega arith)
+ten_within (suc high) (suc f) spares le =
+    let n : ℕ = suc f in
+    let height : ℕ = halving_height (halving_of (right_part n) 0) in
+    let left = ten_within high (left_part n) 0 (omega arith) in
+    let lower = taller (left_part n) (right_part n) 0 0 (omega arith) in
+    omega (
+      arith,
+      bound_of_halves n spares (omega arith),
+      height_of n spares (omega arith),
+      ten_over n (halving_bound (halving_of (left_part n) 0))
+          (halving_bound (halving_of (right_part n) 0)) height (omega arith) (omega arith)
+          (ten_within high (right_part n) 0 (omega arith)),
+    )
+
+pub ten_each : (f spares : ℕ)
+    → halving_bound (halving_of f spares) ≤ 10 * (f + halving_height (halving_of f spares))
+ten_each f spares = ten_within f f spares (omega arith)
+
+-- no king has fewer than two phases
+two_turns : (left right : ℕ) → 2 * instructions right + 2 ≤ right_wait (of_faults left right)
+two_turns left right = omega arith
+
+-- more faults wait no shorter for the right half
+longer : (f g : ℕ) → 0 < f → f ≤ g
+    → right_wait (of_faults (left_part f) (right_part f))
+    ≤ right_wait (of_faults (left_part g) (right_part g))
+longer f g some le = ⊎_elim
+    (λ less. omega (
+      arith,
+      fewer_turns (left_part f) (right_part f) less,
+      two_turns (left_part g) (right_part g),
+    ))
+    (λ more. let same : left_part f ≡ right_part f = omega arith in ⊎_elim
+    (λ less. omega (
+      arith,
+      same_turns (left_part f) (right_part f) same,
+      two_turns (left_part g) (right_part g),
+    ))
+    (λ over. let equal : left_part g ≡ right_part g = omega arith in omega (
+      arith,
+      same_turns (left_part f) (right_part f) same,
+      same_turns (left_part g) (right_part g) equal,
+    ))
+    (cases_lt (left_part g) (right_part g)))
+    (cases_lt (left_part f) (right_part f))
 
 bounds_within : (height f g d e : ℕ) → f ≤ g → g ≤ height
     → halving_bound (halving_of f d) ≤ halving_bound (halving_of g e)
@@ -106,11 +160,16 @@ bounds_within (suc height) (suc f) zero d e le high = absurd (omega arith)
 bounds_within (suc height) (suc f) (suc g) d e le high =
     let m : ℕ = suc f in
     let n : ℕ = suc g in
-    let left = bounds_within height (m / 3) (n / 3) 0 0 (omega arith) (omega arith) in
+    let left =
+    bounds_within height (left_part m) (left_part n) 0 0 (omega arith) (omega arith) in
     let right =
-    bounds_within height (m - 1 - m / 3) (n - 1 - n / 3) 0 0 (omega arith) (omega arith) in
-    let more = slower_over m n _ _ _ _ le left right in
-    omega (arith, bound_of_halves m d (omega arith), bound_of_halves n e (omega arith), more)
+    bounds_within height (right_part m) (right_part n) 0 0 (omega arith) (omega arith) in
+    omega (
+      arith,
+      bound_of_halves m d (omega arith),
+      bound_of_halves n e (omega arith),
+      longer m n (omega arith) le,
+    )
 
 -- a tree of more faults is no faster
 pub bounds_rise : (f g d e : ℕ) → f ≤ g

@@ -1,9 +1,9 @@
 -- A group of nodes that is a tree or a half in one, wherever it begins: its numbers, and its
 -- halves.
-use Rattle.std.specs.Prelude.{◌≡◌, ℕ, ◌+◌, ◌-◌, ◌*◌, ◌/◌, ◌^◌, ◌<◌, ◌≤◌, nat_lt, if◌then◌else◌}
+use Rattle.std.specs.Prelude.{◌≡◌, ℕ, ◌+◌, ◌-◌, ◌*◌, ◌^◌, ◌<◌, ◌≤◌, nat_lt, if◌then◌else◌}
 use Rattle.std.specs.Prelude.{Option, Some, None}
 use Rattle.pulse_plan.specs.Halves.{Halves, left_period, right_period}
-use Rattle.pulse_plan.specs.Halvings.{Halving, halving_of}
+use Rattle.pulse_plan.specs.Halvings.{Halving, halving_of, left_part, right_part}
 use Rattle.pulse_plan.specs.Steps.{halving_depth}
 use Rattle.pulse_plan.specs.Plans.{PulseNumbers}
 
@@ -27,25 +27,35 @@ pub record IsGroup (group : PulseGroup) : Type 0 where
   pub single : group.faults ≡ 0 → group.nodes ≡ 1
   pub least_modulus : 2 ≤ group.modulus
   pub most_modulus : group.modulus ≤ 2 ^ 40
-  pub register : group.register + 4 * group.faults ≤ 340
+  pub register : group.register + 2 * group.faults ≤ 170
+
+-- the sizes of the level over the group's halves
+abbrev pub sizes_of : PulseGroup → Halves
+sizes_of group = record {
+  left_nodes = 3 * left_part group.faults + 1;
+  left_faults = left_part group.faults;
+  right_nodes = 3 * right_part group.faults + 1;
+  right_faults = right_part group.faults;
+  nodes = group.nodes;
+}
 
 -- the halves: the first nodes of the group, and those after them
 abbrev pub left_of : PulseGroup → PulseGroup
 left_of group = record {
   first = group.first;
-  nodes = 3 * (group.faults / 3) + 1;
-  faults = group.faults / 3;
-  modulus = left_period group.faults;
-  register = group.register + 4;
+  nodes = 3 * left_part group.faults + 1;
+  faults = left_part group.faults;
+  modulus = left_period (sizes_of group);
+  register = group.register + 2;
 }
 
 abbrev pub right_of : PulseGroup → PulseGroup
 right_of group = record {
-  first = group.first + (3 * (group.faults / 3) + 1);
-  nodes = 3 * (group.faults - 1 - group.faults / 3) + 1;
-  faults = group.faults - 1 - group.faults / 3;
-  modulus = right_period group.faults;
-  register = group.register + 4;
+  first = group.first + (3 * left_part group.faults + 1);
+  nodes = 3 * right_part group.faults + 1;
+  faults = right_part group.faults;
+  modulus = right_period (sizes_of group);
+  register = group.register + 2;
 }
 
 -- the half in which a node of the group is; a spare is in none
@@ -54,16 +64,6 @@ half_in group v =
     if nat_lt v (right_of group).first then Some (left_of group)
     else if nat_lt v ((right_of group).first + (right_of group).nodes) then Some (right_of group)
     else None
-
--- the sizes of the level over the halves
-abbrev pub sizes_of : PulseGroup → Halves
-sizes_of group = record {
-  left_nodes = (left_of group).nodes;
-  left_faults = (left_of group).faults;
-  right_nodes = (right_of group).nodes;
-  right_faults = (right_of group).faults;
-  nodes = group.nodes;
-}
 
 -- where the registers of the group's lowest halves end
 abbrev pub registers_end : PulseGroup → ℕ
@@ -87,5 +87,5 @@ pub record IsHalf (group : PulseGroup) (v : ℕ) (half : PulseGroup) : Type 0 wh
   pub within : half.first + half.nodes ≤ group.first + group.nodes
   pub smaller : half.nodes ≤ group.nodes
   pub fewer : half.faults < group.faults
-  pub register : half.register ≡ group.register + 4
+  pub register : half.register ≡ group.register + 2
   pub registers : registers_end half ≤ registers_end group

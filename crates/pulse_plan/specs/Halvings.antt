@@ -1,8 +1,7 @@
 -- A group halved again and again, and its numbers. There is no premise: each such tree is a
 -- counter.
 use Rattle.std.specs.Prelude.{ℕ, zero, suc, ◌+◌, ◌-◌, ◌*◌, ◌/◌, max}
-use Rattle.pulse_plan.specs.Halves.{Halves, faults_of, instructions, left_period}
-use Rattle.pulse_plan.specs.Halves.{right_period}
+use Rattle.pulse_plan.specs.Halves.{Halves, left_wait, right_wait}
 
 -- One node, or a left and a right half and after them two spare nodes, and so many more.
 pub data Halving : Type 0 where
@@ -34,25 +33,30 @@ halves_of left right spares = record {
   nodes = halving_nodes left + halving_nodes right + 2 + spares;
 }
 
--- the bound of a level that tolerates so many faults, from those of its halves: two periods of the
--- left half, or three of the right one, and the phases of all kings
-abbrev pub bound_over : (f left right : ℕ) → ℕ
-bound_over f left right =
-    max (left + 2 * left_period f) (right + 3 * right_period f) + instructions f + 1
+-- the bound of a level over two halves, from those of the halves
+abbrev pub bound_over : Halves → (left right : ℕ) → ℕ
+bound_over halves left right = max (left + left_wait halves) (right + right_wait halves)
 
 -- T: from this configuration on the tree counts
 abbrev pub halving_bound : Halving → ℕ
 halving_bound One = 0
 halving_bound (Split left right spares) =
-    bound_over (faults_of (halves_of left right spares)) (halving_bound left) (halving_bound right)
+    bound_over (halves_of left right spares) (halving_bound left) (halving_bound right)
 
--- the tree of f faults, in which the left half of each group takes a third of its faults, and the
--- right half what is left but for one; so high at most
+-- of f faults the left half takes so many, and the right half what is left but for one
+abbrev pub left_part : ℕ → ℕ
+left_part f = 5 * f / 13
+
+abbrev pub right_part : ℕ → ℕ
+right_part f = f - 1 - left_part f
+
+-- the tree of f faults, in which each group's faults are so parted; so high at most
 abbrev pub halved_within : (height f spares : ℕ) → Halving
 halved_within zero f spares = One
 halved_within (suc height) zero spares = One
 halved_within (suc height) (suc f) spares =
-    Split (halved_within height ((f + 1) / 3) 0) (halved_within height (f - (f + 1) / 3) 0) spares
+    Split (halved_within height (left_part (suc f)) 0) (halved_within height (right_part (suc f)) 0)
+    spares
 
 -- The tree of so many faults that plans have: 3 F + 1 nodes, and so many spares more in the whole
 -- group. A tree of no faults is one node.

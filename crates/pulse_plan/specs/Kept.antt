@@ -1,4 +1,4 @@
--- What the machine of a pulse plan keeps.
+-- What the machine of a plan keeps.
 use Rattle.std.specs.Prelude.{◌≡◌, List, map}
 use Rattle.std.specs.List.{range_with_len}
 use Rattle.state_codec.specs.Shapes.{Fields}

@@ -15,7 +15,7 @@ machine_in plan = machine_of (tree_of plan) plan.modulus
 pub record PlanSettles (plan : PulseNumbers) : Type 0 where
   pub nodes : halving_nodes (tree_of plan) ≡ plan.nodes
   pub faults : halving_faults (tree_of plan) ≡ plan.faults
-  pub bound : halving_bound (tree_of plan) ≤ 42 * plan.faults
+  pub bound : halving_bound (tree_of plan) ≤ 16 * plan.faults
   pub settles : Settles (machine_in plan)
 
 -- Every accepted plan settles.

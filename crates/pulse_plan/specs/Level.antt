@@ -1,11 +1,11 @@
 -- The laws of one level over two halves. What is said of registers is said of those of level
 -- states.
-use Rattle.std.specs.Prelude.{◌≡◌, ◌⊎◌, ℕ, ◌+◌, ◌*◌, ◌%◌, ◌<◌, ◌≤◌, Bool, false}
+use Rattle.std.specs.Prelude.{◌≡◌, ◌⊎◌, ℕ, ◌+◌, ◌%◌, ◌<◌, ◌≤◌, Bool, false}
 use Rattle.sync_types.specs.declared.states.Reg.{Reg}
 use Rattle.counting.specs.Places.{places}
 use Rattle.phase_king.specs.Hearing.{AllLocked}
-use Rattle.pulse_plan.specs.Halves.{Halves, Halved, faults_of, instructions, left_period}
-use Rattle.pulse_plan.specs.Halves.{right_period}
+use Rattle.pulse_plan.specs.Halves.{Halves, Halved, faults_of, left_period, right_period}
+use Rattle.pulse_plan.specs.Halves.{left_wait, right_wait}
 use Rattle.pulse_plan.specs.LevelStates.{LevelState}
 use Rattle.pulse_plan.specs.Hearing.{LevelStatesStep}
 
@@ -34,14 +34,13 @@ pub record HalfCounts (first nodes faults period : ℕ) (faulty : ℕ → Bool) 
 abbrev pub LeftCounts : (halves : Halves) (faulty : ℕ → Bool) (t last : ℕ) (outputs : ℕ → ℕ → ℕ)
     → Type 0
 LeftCounts halves faulty t last outputs =
-    HalfCounts 0 halves.left_nodes halves.left_faults (left_period (faults_of halves)) faulty t last
-    outputs
+    HalfCounts 0 halves.left_nodes halves.left_faults (left_period halves) faulty t last outputs
 
 abbrev pub RightCounts : (halves : Halves) (faulty : ℕ → Bool) (t last : ℕ) (outputs : ℕ → ℕ → ℕ)
     → Type 0
 RightCounts halves faulty t last outputs =
-    HalfCounts halves.left_nodes halves.right_nodes halves.right_faults
-    (right_period (faults_of halves)) faulty t last outputs
+    HalfCounts halves.left_nodes halves.right_nodes halves.right_faults (right_period halves) faulty
+    t last outputs
 
 -- From one configuration on, to the last one, the registers of all correct nodes are locked at one
 -- value, which goes on to the next one each round.
@@ -51,21 +50,19 @@ pub record StaysLocked (nodes : ℕ) (next : ℕ → ℕ) (faulty : ℕ → Bool
   pub locked : (r : ℕ) → from ≤ r → r ≤ last → AllLocked nodes faulty (registers r) (value r)
   pub grows : (r : ℕ) → from ≤ r → r < last → value (r + 1) ≡ next (value r)
 
--- If the left half counts, the registers are locked two of its periods and R + 1 rounds later. If
--- the right half counts, and all have stepped for R rounds, three of its periods and R + 1 rounds
--- later. The other half is free, and so are the level states in configuration s.
-abbrev pub PulsesSettle : Type 0
-PulsesSettle = (halves : Halves) (next : ℕ → ℕ) (faulty : ℕ → Bool)
+-- If the left half counts, the registers are locked two of its periods later. If the right half
+-- counts, they are so many phases of its kings and two rounds later. The other half is free, and so
+-- are the level states in configuration s.
+abbrev pub HalvesSettle : Type 0
+HalvesSettle = (halves : Halves) (next : ℕ → ℕ) (faulty : ℕ → Bool)
     → Halved halves → places faulty halves.nodes ≤ faults_of halves
     → (s last : ℕ) (outputs : ℕ → ℕ → ℕ) (states : ℕ → ℕ → LevelState)
-    → LevelStatesStep halves next faulty s last outputs states → (t : ℕ)
-    → (s ≤ t → LeftCounts halves faulty t last outputs
-    → StaysLocked halves.nodes next faulty
-    (t + 2 * left_period (faults_of halves) + instructions (faults_of halves) + 1) last
+    → LevelStatesStep halves next faulty s last outputs states → (t : ℕ) → s ≤ t
+    → (LeftCounts halves faulty t last outputs
+    → StaysLocked halves.nodes next faulty (t + left_wait halves) last
     (λ r v. (states r v).register))
-    × (s + instructions (faults_of halves) ≤ t → RightCounts halves faulty t last outputs
-    → StaysLocked halves.nodes next faulty
-    (t + 3 * right_period (faults_of halves) + instructions (faults_of halves) + 1) last
+    × (RightCounts halves faulty t last outputs
+    → StaysLocked halves.nodes next faulty (t + right_wait halves) last
     (λ r v. (states r v).register))
 
 -- If the registers are locked in configuration t, they stay so, whatever the halves do.

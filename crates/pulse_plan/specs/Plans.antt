@@ -1,4 +1,4 @@
--- A plan of the pulse construction: three numbers, and the tree that they stand for.
+-- A plan of the halving construction: three numbers, and the tree that they stand for.
 use Rattle.std.specs.Prelude.{◌≡◌, ℕ, ◌+◌, ◌-◌, ◌*◌, ◌^◌, ◌<◌, ◌≤◌, ◌||◌, ◌&&◌, nat_lt, nat_le}
 use Rattle.std.specs.Prelude.{nat_eq}
 use Rattle.std.specs.Prelude.{if◌then◌else◌, Option, Some, None, Result, Ok, Err}

@@ -24,7 +24,7 @@ outputs_in group heard = map (shown_by group) (section group.first group.nodes h
 
 -- the level state that a state has in a group
 abbrev pub level_state_in : PulseGroup → State → LevelState
-level_state_in group state = level_state_of group.faults (below group.register state)
+level_state_in group state = level_state_of (below group.register state)
 
 -- the level states of the group's nodes
 abbrev pub level_states_in : PulseGroup → List State → List LevelState

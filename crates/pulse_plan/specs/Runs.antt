@@ -3,28 +3,25 @@ use Rattle.std.specs.Prelude.{◌≡◌, ⊤, ℕ, ◌+◌, ◌-◌, ◌<◌, �
 use Rattle.std.specs.Prelude.{◌++◌, length, replicate, Option, Some, None, IfSome, slice_index}
 use Rattle.sync_types.specs.States.{State, zero_register, register_at}
 use Rattle.construction.specs.Runs.{AllLocked}
-use Rattle.pulse_plan.specs.Halves.{faults_of, instructions, left_period, right_period}
+use Rattle.pulse_plan.specs.Halves.{left_period, right_period}
 use Rattle.pulse_plan.specs.Halvings.{Halving, One, Split, halving_nodes, halving_faults}
 use Rattle.pulse_plan.specs.Halvings.{halving_bound, halves_of}
 use Rattle.pulse_plan.specs.Steps.{shown_in, halving_depth, step_of}
 pub use Rattle.state_codec.specs.Shapes.{Fields}
 use Rattle.machines.specs.Machines.{Machine}
 
--- The fields of the state of node v, those of the top level first: four registers for each group
+-- The fields of the state of node v, those of the top level first: two registers for each group
 -- that it is in, and the number of the lowest one. A number that the node lacks has the modulus 1.
 abbrev pub fields_in : (tree : Halving) (modulus v : ℕ) → Fields
 fields_in One modulus v = record { base = modulus; moduli = [] }
 fields_in (Split left right spares) modulus v =
-    let f = faults_of (halves_of left right spares) in
+    let halves = halves_of left right spares in
     let n = halving_nodes left in
     let below =
-    if nat_lt v n then fields_in left (left_period f) v
-    else if nat_lt v (n + halving_nodes right) then fields_in right (right_period f) (v - n)
+    if nat_lt v n then fields_in left (left_period halves) v
+    else if nat_lt v (n + halving_nodes right) then fields_in right (right_period halves) (v - n)
     else record { base = 1; moduli = [] } in
-    record {
-      base = below.base;
-      moduli = modulus ∷ instructions f ∷ left_period f ∷ 1 ∷ below.moduli;
-    }
+    record { base = below.base; moduli = modulus ∷ left_period halves ∷ below.moduli }
 
 -- the number and each finite value are below their moduli, and the registers that the node lacks
 -- are zero

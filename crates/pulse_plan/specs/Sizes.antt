@@ -1,9 +1,9 @@
 -- How many bits and bytes the states of a plan's nodes take, and how many levels there are.
-use Rattle.std.specs.Prelude.{◌≡◌, ℕ, ◌+◌, ◌<◌, ◌≤◌, max, List, [], ◌∷◌, sum_by}
+use Rattle.std.specs.Prelude.{◌≡◌, ℕ, ◌+◌, ◌<◌, ◌≤◌, max, sum_by}
 use Rattle.std.specs.Int.{div_ceil}
 use Rattle.construction.specs.Widths.{width}
 use Rattle.state_codec.specs.Shapes.{bits_in}
-use Rattle.pulse_plan.specs.Halves.{faults_of, instructions, left_period, right_period}
+use Rattle.pulse_plan.specs.Halves.{Halves, left_period, right_period}
 use Rattle.pulse_plan.specs.Halvings.{Halving, One, Split, halving_height, halves_of}
 use Rattle.pulse_plan.specs.Runs.{Fields}
 use Rattle.pulse_plan.specs.Plans.{PulseNumbers, IsAccepted, tree_of}
@@ -22,19 +22,17 @@ fields_bits fields = width fields.base + sum_by register_bits fields.moduli
 abbrev pub node_bits : PulseNumbers → (v : ℕ) → ℕ
 node_bits plan v = fields_bits (fields_of plan v)
 
--- bits of the registers of a level that tolerates f faults
-abbrev pub level_bits : (f modulus : ℕ) → ℕ
-level_bits f modulus =
-    register_bits modulus + register_bits (instructions f) + register_bits (left_period f)
-    + register_bits 1
+-- bits of the registers of a level
+abbrev pub level_bits : Halves → (modulus : ℕ) → ℕ
+level_bits halves modulus = register_bits modulus + register_bits (left_period halves)
 
 -- the most bits that the states of a node in a tree have
 abbrev pub most_bits : (tree : Halving) (modulus : ℕ) → ℕ
 most_bits One modulus = width modulus
 most_bits (Split left right spares) modulus =
-    let f = faults_of (halves_of left right spares) in
-    level_bits f modulus
-    + max (most_bits left (left_period f)) (most_bits right (right_period f))
+    let halves = halves_of left right spares in
+    level_bits halves modulus
+    + max (most_bits left (left_period halves)) (most_bits right (right_period halves))
 
 abbrev pub state_bits : PulseNumbers → ℕ
 state_bits plan = most_bits (tree_of plan) plan.modulus

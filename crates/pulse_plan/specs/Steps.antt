@@ -4,7 +4,7 @@ use Rattle.std.specs.Prelude.{take, drop, replicate, unwrap_or}
 use Rattle.sync_types.specs.States.{State, zero_register, zero_state, register_at}
 use Rattle.construction.specs.PhaseKing.{up}
 use Rattle.construction.specs.Steps.{state_of}
-use Rattle.pulse_plan.specs.Halves.{faults_of, left_period, right_period}
+use Rattle.pulse_plan.specs.Halves.{left_period, right_period}
 use Rattle.pulse_plan.specs.LevelStates.{LevelState, level_state_after}
 use Rattle.pulse_plan.specs.Halvings.{Halving, One, Split, halving_nodes, halving_height}
 use Rattle.pulse_plan.specs.Halvings.{halves_of}
@@ -24,13 +24,11 @@ half_of first nodes group = take nodes (drop first (map inner group))
 abbrev pub new_level_state : (left right : Halving) (spares modulus v : ℕ) (group : List State)
     → LevelState
 new_level_state left right spares modulus v group =
-    let halves = halves_of left right spares in
-    let f = faults_of halves in
     let n = halving_nodes left in
-    level_state_after halves (up modulus) (level_state_of f (state_of group v))
+    level_state_after (halves_of left right spares) (up modulus) (level_state_of (state_of group v))
     (map (shown_in left) (half_of 0 n group))
     (map (shown_in right) (half_of n (halving_nodes right) group))
-    (map (level_state_of f) group)
+    (map level_state_of group)
 
 -- The new state of the node at place v of a group that counts by the modulus, from the states that
 -- it hears of the group's nodes. A node of a half goes on in its half, by what it hears of that; a
@@ -38,12 +36,12 @@ new_level_state left right spares modulus v group =
 abbrev pub step_in : (tree : Halving) (modulus v : ℕ) (group : List State) → State
 step_in One modulus v group = record { x = up modulus (state_of group v).x; registers = [] }
 step_in (Split left right spares) modulus v group =
-    let f = faults_of (halves_of left right spares) in
+    let halves = halves_of left right spares in
     let n = halving_nodes left in
     let m = halving_nodes right in
-    with_level_state f (new_level_state left right spares modulus v group)
-    (if nat_lt v n then step_in left (left_period f) v (half_of 0 n group)
-    else if nat_lt v (n + m) then step_in right (right_period f) (v - n) (half_of n m group)
+    with_level_state (new_level_state left right spares modulus v group)
+    (if nat_lt v n then step_in left (left_period halves) v (half_of 0 n group)
+    else if nat_lt v (n + m) then step_in right (right_period halves) (v - n) (half_of n m group)
     else zero_state 0)
 
 -- a state followed by zero registers, up to so many in all
@@ -55,7 +53,7 @@ filled depth state = record {
 
 -- how many registers a state has
 abbrev pub halving_depth : Halving → ℕ
-halving_depth tree = 4 * halving_height tree
+halving_depth tree = 2 * halving_height tree
 
 -- the new state of node v; the registers that it lacks are zero
 abbrev pub step_of : (tree : Halving) (modulus v : ℕ) (heard : List State) → State

@@ -4,10 +4,10 @@ use Rattle.sync_types.specs.States.{State, zero_state}
 use Rattle.construction.specs.Steps.{state_of}
 use Rattle.construction.specs.Runs.{is_in, configuration}
 use Rattle.pulse_plan.specs.Halvings.{Halving, halving_nodes, halving_faults, halving_bound}
-use Rattle.pulse_plan.specs.Halvings.{halving_of}
+use Rattle.pulse_plan.specs.Halvings.{halving_height, halving_of}
 use Rattle.pulse_plan.specs.LevelStates.{LevelState}
 use Rattle.pulse_plan.specs.Registers.{level_state_of, inner, with_level_state}
-use Rattle.pulse_plan.specs.Registers.{IsLevelState, HasLevelState}
+use Rattle.pulse_plan.specs.Registers.{HasLevelState}
 use Rattle.pulse_plan.specs.Steps.{halving_depth, step_of}
 use Rattle.machines.specs.Machines.{IsConfiguration, IsTable, Round, Run, CountsFrom}
 use Rattle.machines.specs.Machines.{IsToleratedBy, Settles}
@@ -22,23 +22,24 @@ HasQuorum = (tree : Halving) → 3 * halving_faults tree < halving_nodes tree
 pub record IsFast (f spares : ℕ) : Type 0 where
   pub faults : halving_faults (halving_of f spares) ≡ f
   pub nodes : 0 < f → halving_nodes (halving_of f spares) ≡ 3 * f + 1 + spares
-  pub bound : halving_bound (halving_of f spares) ≤ 42 * f
+  pub bound : halving_bound (halving_of f spares) ≤ 16 * f
+  pub each : halving_bound (halving_of f spares)
+      ≤ 10 * (f + halving_height (halving_of f spares))
 
 -- Each tree that plans have is as small and as fast as that.
 abbrev pub AreFast : Type 0
 AreFast = (f spares : ℕ) → IsFast f spares
 
 -- the level state that is written before a state is read back, and so is the state
-pub record IsReadBack (f : ℕ) (level_state : LevelState) (state : State) : Type 0 where
-  pub first : level_state_of f (with_level_state f level_state state) ≡ level_state
-  pub rest : inner (with_level_state f level_state state) ≡ state
+pub record IsReadBack (level_state : LevelState) (state : State) : Type 0 where
+  pub first : level_state_of (with_level_state level_state state) ≡ level_state
+  pub rest : inner (with_level_state level_state state) ≡ state
 
--- A level state in range is read back from registers, and registers in range are written back.
+-- A level state is read back from registers, and registers that have one are written back.
 pub record LevelStatesAreRegisters : Type 0 where
-  pub read : (f : ℕ) (level_state : LevelState) (state : State) → IsLevelState f level_state
-      → IsReadBack f level_state state
-  pub written : (f : ℕ) (state : State) → HasLevelState f state
-      → with_level_state f (level_state_of f state) (inner state) ≡ state
+  pub read : (level_state : LevelState) (state : State) → IsReadBack level_state state
+  pub written : (state : State) → HasLevelState state
+      → with_level_state (level_state_of state) (inner state) ≡ state
 
 -- The zero state is a state of each node.
 abbrev pub ZeroIsInRange : Type 0

@@ -1,5 +1,5 @@
-ghost use Rattle.std.specs.Prelude.{◌≡◌, ◌≤◌, ◌+◌, ◌*◌, ◌^◌};
-ghost use Rattle.pulse_plan.specs.Groups.{tree_in};
+ghost use Rattle.std.specs.Prelude.{◌≡◌, ◌<◌, ◌≤◌, ◌+◌, ◌*◌, ◌^◌};
+ghost use Rattle.pulse_plan.specs.Groups.{tree_in, sizes_of};
 ghost use Rattle.pulse_plan.specs.Sizes.{register_bits, level_bits, most_bits, state_bits};
 ghost use Rattle.pulse_plan.specs.Sizes.{state_bytes, levels_of};
 
@@ -17,20 +17,18 @@ fn register_bits(modulus: u64) -> u32
 
 /// How many bits the registers of a group's own level take.
 fn level_bits(group: &Group) -> u32
-    ensures value { result ≡ level_bits group.now.faults group.now.modulus }
-    ensures most { result ≤ 168 }
+    requires { 0 < group.now.faults }
+    ensures value { result ≡ level_bits (sizes_of group.now) group.now.modulus }
+    ensures most { result ≤ 84 }
 {
     group.facts();
-    register_bits(group.modulus())
-        + register_bits(group.instructions())
-        + register_bits(group.left_period())
-        + register_bits(1)
+    register_bits(group.modulus()) + register_bits(group.left_period())
 }
 
 /// The most bits that the state of a node in a group takes.
 fn bits_in(group: &Group) -> u32
     ensures value { result ≡ most_bits (tree_in group.now) group.now.modulus }
-    ensures most { result ≤ 40 + 168 * group.now.faults }
+    ensures most { result ≤ 40 + 84 * group.now.faults }
 {
     group.facts();
     if group.faults() == 0 {
@@ -44,7 +42,7 @@ fn bits_in(group: &Group) -> u32
 /// The most bits that the state of a node takes.
 pub fn state_bits(plan: &PulsePlan) -> u32
     ensures value { result ≡ state_bits plan.now }
-    ensures most { result ≤ 14320 }
+    ensures most { result ≤ 7180 }
 {
     plan.facts();
     bits_in(&plan.whole())
@@ -61,5 +59,5 @@ pub fn state_bytes(plan: &PulsePlan) -> u64
 pub fn levels(plan: &PulsePlan) -> u64
     ensures { result ≡ levels_of plan.now }
 {
-    (plan.depth() / 4) as u64
+    (plan.depth() / 2) as u64
 }

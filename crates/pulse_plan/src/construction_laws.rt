@@ -11,12 +11,12 @@ pub fn every_halving_has_quorum()
 {}
 
 /// The tree of f faults that plans have has 3 f + 1 nodes, and as many more as are asked for, and
-/// its bound is at most 42 f.
+/// its bound is at most 16 f, and at most ten rounds for each fault and each level.
 pub fn halvings_are_fast()
     ensures { AreFast }
 {}
 
-/// A level state stands in four registers of a state: what is written is read back, what is read is
+/// A level state stands in two registers of a state: what is written is read back, what is read is
 /// written back, and the state in the half after it stays as it is.
 pub fn level_states_are_registers()
     ensures { LevelStatesAreRegisters }
@@ -43,7 +43,7 @@ pub fn each_has_one_next()
 /// round.
 ///
 /// It holds by induction over the tree. However the faults fall, one half has no more than it
-/// tolerates, so it counts from its bound on; at its pulses the group's phases begin.
+/// tolerates, so it counts from its bound on, and its kings lock the group's registers.
 pub fn every_halving_settles()
     ensures { EveryHalvingSettles }
 {}

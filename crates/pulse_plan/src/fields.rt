@@ -14,11 +14,9 @@ pub(crate) fn modulus_in(group: &Group, node: u32, i: usize) -> Option<u64>
     }
     match i {
         0 => Some(group.modulus()),
-        1 => Some(group.instructions()),
-        2 => Some(group.left_period()),
-        3 => Some(1),
+        1 => Some(group.left_period()),
         _ => match group.half_of(node) {
-            Some(half) => modulus_in(&half, node, i - 4),
+            Some(half) => modulus_in(&half, node, i - 2),
             None => None,
         },
     }

@@ -1,7 +1,10 @@
-ghost use Rattle.std.specs.Prelude.{◌≡◌, ◌+◌, ◌*◌, ◌/◌, ◌≤◌, ◌<◌, IfSome};
-ghost use Rattle.pulse_plan.specs.Halves.{instructions, left_period, right_period};
+ghost use Rattle.std.specs.Prelude.{◌≡◌, ◌+◌, ◌*◌, ◌≤◌, ◌<◌, IfSome};
+ghost use Rattle.pulse_plan.specs.Halves.{right_period, right_share, left_period};
+ghost use Rattle.pulse_plan.specs.Halvings.{left_part, right_part};
 ghost use Rattle.pulse_plan.specs.Groups.{PulseGroup, IsGroup, IsHalf, left_of, right_of, half_in};
+ghost use Rattle.pulse_plan.specs.Groups.{sizes_of};
 
+use crate::bounds::left_part;
 use std::marker::Model;
 
 /// A group of nodes of a plan: all nodes, or a half of a group.
@@ -113,27 +116,48 @@ impl Group {
         let _first = self.first;
     }
 
-    /// How many instructions the phases of its kings have, if it has halves.
-    pub fn instructions(&self) -> u64
-        ensures { result ≡ instructions self.now.faults }
+    /// How many faults its left half tolerates.
+    fn left_faults(&self) -> u32
+        ensures { result ≡ left_part self.now.faults }
     {
         self.facts();
-        3 * (u64::from(self.faults) + 1)
+        left_part(self.faults)
     }
 
-    /// The modulus that its left half counts by, if it has halves.
-    pub fn left_period(&self) -> u64
-        ensures { result ≡ left_period self.now.faults }
+    /// How many faults its right half tolerates, if it has halves.
+    fn right_faults(&self) -> u32
+        requires { 0 < self.now.faults }
+        ensures { result ≡ right_part self.now.faults }
     {
         self.facts();
-        3 * self.instructions() - 1
+        self.faults - 1 - self.left_faults()
     }
 
     /// The modulus that its right half counts by, if it has halves.
     pub fn right_period(&self) -> u64
-        ensures { result ≡ right_period self.now.faults }
+        requires { 0 < self.now.faults }
+        ensures { result ≡ right_period (sizes_of self.now) }
     {
-        self.instructions()
+        self.facts();
+        3 * (u64::from(self.right_faults()) + 1)
+    }
+
+    /// How many rounds of its left half's period are the right half's share, if it has halves.
+    pub fn right_share(&self) -> u64
+        requires { 0 < self.now.faults }
+        ensures { result ≡ right_share (sizes_of self.now) }
+    {
+        self.facts();
+        self.right_period() + 2
+    }
+
+    /// The modulus that its left half counts by, if it has halves.
+    pub fn left_period(&self) -> u64
+        requires { 0 < self.now.faults }
+        ensures { result ≡ left_period (sizes_of self.now) }
+    {
+        self.facts();
+        self.right_share() + 3 * (u64::from(self.left_faults()) + 1)
     }
 
     /// The left half, of a group that has halves.
@@ -142,13 +166,13 @@ impl Group {
         ensures { result ≡ left_of self.now }
     {
         self.facts();
-        let faults = self.faults / 3;
+        let faults = self.left_faults();
         Group {
             first: self.first,
             nodes: 3 * faults + 1,
             faults,
             modulus: self.left_period(),
-            register: self.register + 4,
+            register: self.register + 2,
         }
     }
 
@@ -158,14 +182,13 @@ impl Group {
         ensures { result ≡ right_of self.now }
     {
         self.facts();
-        let left = self.faults / 3;
-        let faults = self.faults - 1 - left;
+        let faults = self.right_faults();
         Group {
-            first: self.first + 3 * left + 1,
+            first: self.first + 3 * self.left_faults() + 1,
             nodes: 3 * faults + 1,
             faults,
             modulus: self.right_period(),
-            register: self.register + 4,
+            register: self.register + 2,
         }
     }
 

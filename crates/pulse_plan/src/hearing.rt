@@ -1,40 +1,121 @@
-ghost use Rattle.std.specs.Prelude.{◌≡◌, ◌+◌, ◌*◌, ◌≤◌, ◌<◌, length, All, count_by, nat_eq};
-ghost use Rattle.pulse_plan.specs.LevelStates.{sees};
-ghost use Rattle.pulse_plan.specs.MachineGroups.{HasGroup};
-ghost use Rattle.pulse_plan.specs.PulseMachineHearing.{outputs_in, level_state_heard};
+ghost use Rattle.std.specs.Prelude.{◌≡◌, ◌≢◌, ℕ, ◌+◌, ◌-◌, ◌*◌, ◌≤◌, ◌<◌, length, All, nat_le};
+ghost use Rattle.std.specs.Prelude.{nat_eq, count_by};
+ghost use Rattle.counting.specs.Values.{majority_or_zero};
+ghost use Rattle.pulse_plan.specs.LevelStates.{shown};
+ghost use Rattle.pulse_plan.specs.MachineGroups.{HasGroup, section};
+ghost use Rattle.pulse_plan.specs.PulseMachineHearing.{shown_by, outputs_in, level_state_heard};
 
 use crate::Group;
-use crate::counts::{ZeroNumber, ZeroValue, count, count_group};
-use crate::kings::obey;
-use crate::level_states::{HeardPulses, LevelState};
+use crate::counts::{count_group, one_if};
+use crate::kings::{king_place, obey};
+use crate::level_states::LevelState;
 use counter_core::Heard;
 use majority_votes::Tally;
+use sync_types::NodeState;
 
-/// How many nodes of a group show 0.
-fn zeros(group: &Group, heard: &Heard<'_>) -> usize
-    requires within { group.now.first + group.now.nodes ≤ length heard.now }
-    requires deep { All (HasGroup group.now) heard.now }
-    ensures { result ≡ count_by (nat_eq 0) (outputs_in group.now heard.now) }
+/// What a state shows in a group.
+fn output_in(group: &Group, state: &NodeState) -> u64
+    requires { HasGroup group.now state.now }
+    ensures { result ≡ shown_by group.now state.now }
 {
     group.facts();
     if group.faults() == 0 {
-        count(&ZeroNumber, heard, group.first(), group.nodes())
+        state.x()
     } else {
-        let test = ZeroValue {
-            register: group.register(),
-        };
-        count(&test, heard, group.first(), group.nodes())
+        state.reg(group.register()).a.unwrap_or(0)
     }
 }
 
-/// Whether enough nodes of a group show 0 that a correct one does, if it tolerates its faults.
-fn sees(group: &Group, heard: &Heard<'_>) -> bool
-    requires within { group.now.first + group.now.nodes ≤ length heard.now }
-    requires deep { All (HasGroup group.now) heard.now }
-    ensures { result ≡ sees group.now.nodes group.now.faults (outputs_in group.now heard.now) }
+/// A number that leads among those that a half's nodes show.
+#[derive(Clone, Copy, Debug)]
+struct Leader {
+    number: u64,
+    lead: u64,
+}
+
+/// The only number that more than half of a half's nodes may show, and its lead: each node that
+/// shows another number takes one away from that. At least so many nodes show it.
+fn candidate(half: &Group, heard: &Heard<'_>) -> Leader
+    requires within { half.now.first + half.now.nodes ≤ length heard.now }
+    requires deep { All (HasGroup half.now) heard.now }
+    ensures others { (z : ℕ) → z ≢ result.number
+        → 2 * count_by (λ s. nat_eq z (shown_by half.now s))
+        (section half.now.first half.now.nodes heard.now) ≤ half.now.nodes }
+    ensures own { result.lead ≤ count_by (λ s. nat_eq result.number (shown_by half.now s))
+        (section half.now.first half.now.nodes heard.now) }
+    ensures most { result.lead ≤ half.now.nodes }
+{
+    half.facts();
+    let first = half.first();
+    let mut number = 0;
+    let mut lead: u64 = 0;
+    for i in 0..half.nodes() {
+        let output = output_in(half, heard.state(first + i));
+        if output == number {
+            lead += 1;
+        } else if lead == 0 {
+            number = output;
+            lead = 1;
+        } else {
+            lead -= 1;
+        }
+    }
+    Leader { number, lead }
+}
+
+/// How many of a half's nodes show a number.
+fn count_showing(half: &Group, number: u64, heard: &Heard<'_>) -> usize
+    requires within { half.now.first + half.now.nodes ≤ length heard.now }
+    requires deep { All (HasGroup half.now) heard.now }
+    ensures value { result ≡ count_by (λ s. nat_eq number (shown_by half.now s))
+        (section half.now.first half.now.nodes heard.now) }
+    ensures most { result ≤ half.now.nodes }
+{
+    half.facts();
+    let first = half.first();
+    let mut count = 0;
+    for i in 0..half.nodes() {
+        let state = heard.state(first + i);
+        count += one_if(number == output_in(half, state));
+    }
+    count
+}
+
+/// What more than half of a half's nodes show, 0 if there is none.
+fn majority(half: &Group, heard: &Heard<'_>) -> u64
+    requires within { half.now.first + half.now.nodes ≤ length heard.now }
+    requires deep { All (HasGroup half.now) heard.now }
+    ensures { result ≡ majority_or_zero (outputs_in half.now heard.now) }
+{
+    half.facts();
+    let nodes = half.nodes();
+    let found = candidate(half, heard);
+    if 2 * found.lead > u64::from(nodes) {
+        return found.number;
+    }
+    if 2 * count_showing(half, found.number, heard) > nodes as usize {
+        found.number
+    } else {
+        0
+    }
+}
+
+/// What a half shows: what more than half of its nodes do, or 0, modulo what it counts by.
+fn shown(half: &Group, heard: &Heard<'_>) -> u64
+    requires within { half.now.first + half.now.nodes ≤ length heard.now }
+    requires deep { All (HasGroup half.now) heard.now }
+    ensures { result ≡ shown half.now.modulus (outputs_in half.now heard.now) }
+{
+    half.facts();
+    majority(half, heard) % half.modulus()
+}
+
+/// Whether so many nodes of a group that no correct node has another number with as many.
+fn is_backed(group: &Group, saw: usize) -> bool
+    ensures { result ≡ nat_le (group.now.nodes - group.now.faults) saw }
 {
     group.facts();
-    zeros(group, heard) >= (group.nodes() - group.faults()) as usize
+    saw >= (group.nodes() - group.faults()) as usize
 }
 
 /// The new level state of a node of a group that has halves, by what it hears.
@@ -54,20 +135,25 @@ pub(crate) fn new_level_state(
 {
     group.facts();
     let own = LevelState::read(heard.state(node), group);
-    let counts = count_group(group, own.register.a, heard);
+    let counts = count_group(group, &own, heard);
+    let backed = is_backed(group, counts.saw);
+    let left = shown(&group.left(), heard);
+    let right = shown(&group.right(), heard);
+    let follows = own.follows_left(backed, group);
+    let instruction = own.instruction(follows, right, group);
+    let place = king_place(group, follows, instruction);
     let register = obey(
         group,
-        own.instruction,
+        instruction,
+        place,
         own.register,
         counts.same,
         heard,
         tally,
     );
-    let said = HeardPulses {
-        sees_left: sees(&group.left(), heard),
-        says_left: counts.saw_left,
-        sees_right: sees(&group.right(), heard),
-        says_right: counts.saw_right,
-    };
-    own.after(register, &said, group)
+    LevelState {
+        register,
+        seen: left,
+        trusted: own.trusts(left, backed),
+    }
 }

@@ -1,8 +1,10 @@
-ghost use Rattle.std.specs.Prelude.{◌≡◌, ◌+◌, ◌*◌, ◌/◌, ◌%◌, ◌≤◌, ◌<◌, ◌^◌, length, All, Option};
+ghost use Rattle.std.specs.Prelude.{◌≡◌, ◌+◌, ◌*◌, ◌%◌, ◌≤◌, ◌<◌, ◌^◌, length, All, Option};
 ghost use Rattle.std.specs.Prelude.{None, slice_index_or};
 ghost use Rattle.counting.specs.Values.{count_of};
 ghost use Rattle.construction.specs.PhaseKing.{up, instructed};
 ghost use Rattle.counter_core.specs.HeardRegisters.{values_heard};
+ghost use Rattle.pulse_plan.specs.LevelStates.{king_of};
+ghost use Rattle.pulse_plan.specs.Groups.{sizes_of};
 ghost use Rattle.pulse_plan.specs.PulseMachineHearing.{values_in};
 
 use crate::Group;
@@ -22,11 +24,25 @@ fn king(values: &HeardRegister<'_>, place: u64) -> Option<u64>
     }
 }
 
-/// The register of a node of a group, after its instruction. `same` says how many nodes have the
-/// value that it had before.
+/// The place of the king whose instruction this is, in a group that has halves.
+pub(crate) fn king_place(group: &Group, left: bool, instruction: u64) -> u64
+    requires { 0 < group.now.faults }
+    ensures { result ≡ king_of (sizes_of group.now) left instruction }
+{
+    let place = instruction / 3;
+    if left {
+        place
+    } else {
+        u64::from(group.left().nodes()) + place
+    }
+}
+
+/// The register of a node of a group, after its instruction under the king at a place. `same` says
+/// how many nodes have the value that it had before.
 pub(crate) fn obey(
     group: &Group,
     instruction: u64,
+    place: u64,
     own: Reg,
     same: usize,
     heard: &Heard<'_>,
@@ -37,7 +53,7 @@ pub(crate) fn obey(
     requires same { same ≡ count_of (values_in group.now heard.now) own.a }
     requires room { group.now.nodes ≤ tally.old.capacity }
     ensures register { result ≡ instructed group.now.nodes group.now.faults (up group.now.modulus)
-        (instruction % 3) own (values_in group.now heard.now) (instruction / 3) }
+        (instruction % 3) own (values_in group.now heard.now) place }
     ensures capacity { tally.new.capacity ≡ tally.old.capacity }
 {
     group.facts();
@@ -51,7 +67,7 @@ pub(crate) fn obey(
             king_step(1, own, same, least, None, nodes, faults, modulus)
         }
         _ => {
-            let king = king(&values, instruction / 3);
+            let king = king(&values, place);
             king_step(2, own, 0, None, king, nodes, faults, modulus)
         }
     }

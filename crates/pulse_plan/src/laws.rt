@@ -3,7 +3,7 @@
 ghost use Rattle.pulse_plan.specs.Laws.{EveryPlanSettles, AcceptedAreSound, BoundsRise};
 
 /// Each accepted plan's machine has the plan's nodes and faults, and counts from its bound on,
-/// which is at most 42 for each fault: whatever the start and the lies, with each faulty set that
+/// which is at most 16 for each fault: whatever the start and the lies, with each faulty set that
 /// it tolerates.
 pub fn every_plan_settles()
     ensures { EveryPlanSettles }

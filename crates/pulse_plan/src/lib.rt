@@ -1,4 +1,4 @@
-//! The pulse construction: plans, the states of a plan's nodes, and the counter of a plan.
+//! The halving construction: plans, the states of a plan's nodes, and the counter of a plan.
 //!
 //! A [`PulsePlan`] is three numbers, of which some are accepted. They stand for a tree of halves,
 //! which is nowhere kept: a [`Group`] of it is made from the one above. From the tree follow the

@@ -15,7 +15,7 @@ const LARGEST_MODULUS: u64 = 1 << 40;
 
 const MOST_NODES: u64 = 256;
 
-/// An accepted plan of the pulse construction: so many nodes, of which so many may be faulty, count
+/// An accepted plan of the halving construction: so many nodes, of which so many may be faulty, count
 /// by a modulus.
 #[derive(Clone, Copy, Debug, PartialEq, Eq)]
 pub struct PulsePlan {

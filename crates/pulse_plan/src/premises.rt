@@ -1,6 +1,6 @@
 use thiserror::Error;
 
-/// A premise of a pulse plan, in the order in which they are tested.
+/// A premise of a plan, in the order in which they are tested.
 #[derive(Clone, Copy, Debug, PartialEq, Eq, Error)]
 pub enum PulsePremise {
     /// A number is above its limit.

@@ -13,8 +13,7 @@ use std::alloc::Global;
 use std::marker::Model;
 use sync_types::{NoMemory, NodeState};
 
-/// The counter of an accepted pulse plan, with the fields of its nodes: the machine that the plan
-/// is.
+/// The counter of an accepted plan, with the fields of its nodes: the machine that the plan is.
 #[derive(Drop)]
 pub struct PulseMachine {
     plan: PulsePlan,

@@ -46,7 +46,7 @@ module _ (own : Fields) (values count : ℕ) where
           behind_limited;
     }
 
-    pub further_small : bits_in own ≤ 715 → count ≤ 2
+    pub further_small : bits_in own ≤ 464 → count ≤ 2
         → bits_in (with_further own values count) ≤ 1024
     further_small small few =
         let alone : Fields = record { base = 1; moduli = replicate count values } in

@@ -42,7 +42,7 @@ fn fields_with(
     count: usize,
 ) -> Result<Fields, NoMemory>
     requires depth { length own.now.moduli ≡ depth }
-    requires small { bits_in own.now ≤ 715 }
+    requires small { bits_in own.now ≤ 464 }
     requires most { values ≤ 65536 }
     requires few { count ≤ 2 }
     ensures { IfOk result (λ fields. fields ≡ with_further own.now values count) }

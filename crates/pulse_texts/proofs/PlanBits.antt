@@ -1,10 +1,11 @@
--- A state of a node of a pulse plan takes some bits, and has few registers.
-use Rattle.std.proofs.Common.{ℕ, zero, suc, ◌+◌, ◌-◌, ◌*◌, ◌/◌, ◌^◌, ◌<◌, ◌≤◌, List, ◌∷◌}
+-- A state of a node of a plan takes some bits, and has few registers.
+use Rattle.std.proofs.Common.{ℕ, zero, suc, ◌+◌, ◌-◌, ◌*◌, ◌^◌, ◌<◌, ◌≤◌, List, ◌∷◌}
 use Rattle.std.proofs.Common.{sym, subst, arith}
 use Rattle.state_codec.specs.Shapes.{Fields, fields_at, registers_bits, bits_in}
 use Rattle.state_codec.proofs.RegisterSteps.{registers_bits-cons}
 use Rattle.node_words.proofs.StateDigits.{wide, some_register}
 use Rattle.pulse_plan.specs.Halvings.{Halving, One, Split, halving_height, halved_within}
+use Rattle.pulse_plan.specs.Halvings.{left_part, right_part}
 use Rattle.pulse_plan.specs.Runs.{all_fields}
 use Rattle.pulse_plan.specs.Plans.{PulseNumbers, IsAccepted, tree_of}
 use Rattle.pulse_texts.specs.PulseShapes.{shape_of}
@@ -26,8 +27,8 @@ height_most : (height f spares : ℕ) → halving_height (halved_within height f
 height_most zero f spares = omega arith
 height_most (suc height) zero spares = omega arith
 height_most (suc height) (suc f) spares =
-    let left = height_most height ((f + 1) / 3) 0 in
-    let right = height_most height (f - (f + 1) / 3) 0 in
+    let left = height_most height (left_part (suc f)) 0 in
+    let right = height_most height (right_part (suc f)) 0 in
     omega (arith, left, right)
 
 pub some_bits_at : (plan : PulseNumbers) → IsAccepted plan → (v : ℕ) → v < plan.nodes
@@ -36,7 +37,7 @@ some_bits_at plan accepted v lt =
     subst (λ (f : Fields). 0 < bits_in f) (sym (fields_are plan accepted v lt))
     (some_bits (tree_of plan) plan.modulus v accepted.least_modulus accepted.most_modulus)
 
--- a level has four registers, and single nodes have none
+-- a level has two registers, and single nodes have none
 pub few_registers : (plan : PulseNumbers) → IsAccepted plan → (shape_of plan).depth ≤ 340
 few_registers plan accepted =
     let high = height_most plan.faults plan.faults (plan.nodes - (3 * plan.faults + 1)) in

@@ -4,7 +4,7 @@ use Rattle.std.proofs.Common.{get_or, sym, ap, ◌∙◌, subst, inl, inr}
 use Rattle.std.proofs.Common.{arith}
 use Rattle.std.specs.Prelude.{nat_lt, if◌then◌else◌}
 use Rattle.std.proofs.lemmas.Bool.{cases_lt, lt-ltb, le-ltb}
-use Rattle.pulse_plan.specs.Halves.{faults_of, left_period, right_period}
+use Rattle.pulse_plan.specs.Halves.{Halves, left_period, right_period}
 use Rattle.pulse_plan.specs.Halvings.{Halving, One, Split, halving_nodes, halving_height}
 use Rattle.pulse_plan.specs.Halvings.{halves_of}
 use Rattle.pulse_plan.specs.Steps.{halving_depth}
@@ -17,19 +17,17 @@ pub record DeepNode (tree : Halving) (c : ℕ) : Type 0 where
   pub inside : node < halving_nodes tree
   pub each : (i : ℕ) → i < halving_depth tree → 1 ≤ get_or (fields_in tree c node).moduli i 0
 
--- four registers more
-more : (f c depth : ℕ) (below : Fields) → 1 ≤ c
+-- two registers more
+more : (halves : Halves) (c depth : ℕ) (below : Fields) → 1 ≤ c
     → ((i : ℕ) → i < depth → 1 ≤ get_or below.moduli i 0)
-    → (i : ℕ) → i < depth + 4 → 1 ≤ get_or (with_level f c below).moduli i 0
-more f c depth below some each zero lt = some
-more f c depth below some each (suc zero) lt = omega arith
-more f c depth below some each (suc (suc zero)) lt = omega arith
-more f c depth below some each (suc (suc (suc zero))) lt = omega arith
-more f c depth below some each (suc (suc (suc (suc i)))) lt = each i (omega (arith, lt))
+    → (i : ℕ) → i < depth + 2 → 1 ≤ get_or (with_level halves c below).moduli i 0
+more halves c depth below some each zero lt = some
+more halves c depth below some each (suc zero) lt = omega arith
+more halves c depth below some each (suc (suc i)) lt = each i (omega (arith, lt))
 
 module _ (left right : Halving) (spares c : ℕ) (some : 1 ≤ c) where
-  abbrev f : ℕ
-  f = faults_of (halves_of left right spares)
+  abbrev halves : Halves
+  halves = halves_of left right spares
 
   abbrev n : ℕ
   n = halving_nodes left
@@ -39,52 +37,52 @@ module _ (left right : Halving) (spares c : ℕ) (some : 1 ≤ c) where
 
   abbrev below_by : (v : ℕ) (first second : Bool) → Fields
   below_by v first second =
-      if first then fields_in left (left_period f) v
-      else if second then fields_in right (right_period f) (v - n)
+      if first then fields_in left (left_period halves) v
+      else if second then fields_in right (right_period halves) (v - n)
       else no_fields
 
   abbrev below_at : (v : ℕ) → Fields
   below_at v = below_by v (nat_lt v n) (nat_lt v (n + m))
 
-  by_left : halving_height right ≤ halving_height left → DeepNode left (left_period f)
+  by_left : halving_height right ≤ halving_height left → DeepNode left (left_period halves)
       → DeepNode (Split left right spares) c
   by_left higher deep =
       let v = deep.node in
       let inside = deep.inside in
-      let at : below_at v ≡ fields_in left (left_period f) v =
+      let at : below_at v ≡ fields_in left (left_period halves) v =
       ap (λ b. below_by v b (nat_lt v (n + m))) (lt-ltb v n inside) in
-      let depth : halving_depth (Split left right spares) ≡ halving_depth left + 4 =
+      let depth : halving_depth (Split left right spares) ≡ halving_depth left + 2 =
       omega (arith, higher) in
       record {
         node = v;
         inside = omega (arith, inside);
-        each = λ i lt. more f c (halving_depth left) (below_at v) some
+        each = λ i lt. more halves c (halving_depth left) (below_at v) some
             (subst (λ (b : Fields). (j : ℕ) → j < halving_depth left → 1 ≤ get_or b.moduli j 0)
             (sym at) deep.each) i (omega (arith, lt, depth));
       }
 
-  by_right : halving_height left ≤ halving_height right → DeepNode right (right_period f)
+  by_right : halving_height left ≤ halving_height right → DeepNode right (right_period halves)
       → DeepNode (Split left right spares) c
   by_right higher deep =
       let u = deep.node in
       let inside = deep.inside in
       let v : ℕ = n + u in
       let place : v - n ≡ u = omega arith in
-      let at : below_at v ≡ fields_in right (right_period f) u =
+      let at : below_at v ≡ fields_in right (right_period halves) u =
       ap (λ b. below_by v b (nat_lt v (n + m))) (le-ltb v n (omega arith))
       ∙ (ap (λ b. below_by v false b) (lt-ltb v (n + m) (omega (arith, inside)))
-      ∙ ap (fields_in right (right_period f)) place) in
-      let depth : halving_depth (Split left right spares) ≡ halving_depth right + 4 =
+      ∙ ap (fields_in right (right_period halves)) place) in
+      let depth : halving_depth (Split left right spares) ≡ halving_depth right + 2 =
       omega (arith, higher) in
       record {
         node = v;
         inside = omega (arith, inside);
-        each = λ i lt. more f c (halving_depth right) (below_at v) some
+        each = λ i lt. more halves c (halving_depth right) (below_at v) some
             (subst (λ (b : Fields). (j : ℕ) → j < halving_depth right → 1 ≤ get_or b.moduli j 0)
             (sym at) deep.each) i (omega (arith, lt, depth));
       }
 
-  deep_by : DeepNode left (left_period f) → DeepNode right (right_period f)
+  deep_by : DeepNode left (left_period halves) → DeepNode right (right_period halves)
       → DeepNode (Split left right spares) c
   deep_by deep_left deep_right = elim (cases_lt (halving_height left) (halving_height right)) [
     | inl lt ↦ by_right (omega (arith, lt)) deep_right
@@ -98,6 +96,6 @@ deep_node One c some = record {
   each = λ i lt. absurd (omega (arith, lt));
 }
 deep_node (Split left right spares) c some =
-    let f = faults_of (halves_of left right spares) in
-    deep_by left right spares c some (deep_node left (left_period f) (omega arith))
-    (deep_node right (right_period f) (omega arith))
+    let halves = halves_of left right spares in
+    deep_by left right spares c some (deep_node left (left_period halves) (omega arith))
+    (deep_node right (right_period halves) (omega arith))

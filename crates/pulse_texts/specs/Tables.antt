@@ -1,11 +1,11 @@
--- The table of a pulse plan: its numbers, and those of each of its groups, line by line.
+-- The table of a plan: its numbers, and those of each of its groups, line by line.
 use Rattle.std.specs.Prelude.{ℕ, zero, suc, ◌-◌, List, [], ◌∷◌, ◌++◌, ◌==◌, if◌then◌else◌, codes}
 use Rattle.std.specs.Prelude.{decimal}
 use Rattle.std.specs.List.{concat}
 use Rattle.pulse_plan.specs.Halves.{left_period, right_period}
 use Rattle.pulse_plan.specs.Halvings.{halving_bound}
 use Rattle.pulse_plan.specs.Plans.{PulseNumbers, tree_of}
-use Rattle.pulse_plan.specs.Groups.{PulseGroup, left_of, right_of, whole_of}
+use Rattle.pulse_plan.specs.Groups.{PulseGroup, left_of, right_of, whole_of, sizes_of}
 use Rattle.pulse_plan.specs.Sizes.{state_bits, state_bytes, levels_of}
 
 -- the first two lines: what the text is, and the plan
@@ -42,8 +42,8 @@ spares_of group = group.nodes - (left_of group).nodes - (right_of group).nodes
 -- what its halves count by, and how many nodes are in none of them
 abbrev pub halves_end : PulseGroup → List ℕ
 halves_end group = concat (
-    codes " left " ∷ decimal (left_period group.faults)
-    ∷ codes " right " ∷ decimal (right_period group.faults)
+    codes " left " ∷ decimal (left_period (sizes_of group))
+    ∷ codes " right " ∷ decimal (right_period (sizes_of group))
     ∷ codes " spares " ∷ decimal (spares_of group)
     ∷ codes "\n" ∷ [])
 

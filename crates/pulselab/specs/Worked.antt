@@ -42,22 +42,22 @@ pub record PlansAreSpelled : Type 0 where
   pub skipped : whole_pulses_of (codes "# a plan\npulses 1\n\ngroup 13 4 10\nend\n") ≡ Ok thirteen
   pub table : table_text (record { nodes = 4; faults = 1; modulus = 10 })
       ≡ codes "table pulses 1\nplan nodes 4 faults 1 modulus 10\n"
-      ++ codes "bound 41 levels 1 bits 22 bytes 3\n"
-      ++ codes "group 0 nodes 4 faults 1 modulus 10 left 17 right 6 spares 2\n"
-      ++ codes "group 0 nodes 1 faults 0 modulus 17\n"
-      ++ codes "group 1 nodes 1 faults 0 modulus 6\nend\n"
+      ++ codes "bound 16 levels 1 bits 13 bytes 2\n"
+      ++ codes "group 0 nodes 4 faults 1 modulus 10 left 8 right 3 spares 2\n"
+      ++ codes "group 0 nodes 1 faults 0 modulus 8\n"
+      ++ codes "group 1 nodes 1 faults 0 modulus 3\nend\n"
   pub deep : table_text thirteen
       ≡ codes "table pulses 1\nplan nodes 13 faults 4 modulus 10\n"
-      ++ codes "bound 145 levels 3 bits 59 bytes 8\n"
-      ++ codes "group 0 nodes 13 faults 4 modulus 10 left 44 right 15 spares 2\n"
-      ++ codes "group 0 nodes 4 faults 1 modulus 44 left 17 right 6 spares 2\n"
-      ++ codes "group 0 nodes 1 faults 0 modulus 17\n"
-      ++ codes "group 1 nodes 1 faults 0 modulus 6\n"
-      ++ codes "group 4 nodes 7 faults 2 modulus 15 left 26 right 9 spares 2\n"
-      ++ codes "group 4 nodes 1 faults 0 modulus 26\n"
-      ++ codes "group 5 nodes 4 faults 1 modulus 9 left 17 right 6 spares 2\n"
-      ++ codes "group 5 nodes 1 faults 0 modulus 17\n"
-      ++ codes "group 6 nodes 1 faults 0 modulus 6\nend\n"
+      ++ codes "bound 50 levels 3 bits 33 bytes 5\n"
+      ++ codes "group 0 nodes 13 faults 4 modulus 10 left 17 right 9 spares 2\n"
+      ++ codes "group 0 nodes 4 faults 1 modulus 17 left 8 right 3 spares 2\n"
+      ++ codes "group 0 nodes 1 faults 0 modulus 8\n"
+      ++ codes "group 1 nodes 1 faults 0 modulus 3\n"
+      ++ codes "group 4 nodes 7 faults 2 modulus 9 left 11 right 6 spares 2\n"
+      ++ codes "group 4 nodes 1 faults 0 modulus 11\n"
+      ++ codes "group 5 nodes 4 faults 1 modulus 6 left 8 right 3 spares 2\n"
+      ++ codes "group 5 nodes 1 faults 0 modulus 8\n"
+      ++ codes "group 6 nodes 1 faults 0 modulus 3\nend\n"
 
 -- what the words `run` and `slots` write of a text
 abbrev pub IsRunAs : (text answer : List ℕ) → Type 0
@@ -85,12 +85,12 @@ pub record RunsAreSpelled : Type 0 where
   pub unlocked : IsRunAs
       (codes "pulses 1\ngroup 4 1 10\nend\nscript 1\nfaulty 3\nstart zero\n"
       ++ codes "rounds 0\nshow 0 0\nend\n")
-      (codes "bound 41\nrow 0 0 0 0 *\nlocked none\n")
+      (codes "bound 16\nrow 0 0 0 0 *\nlocked none\n")
   pub locked : IsRunAs
       (codes "pulses 1\ngroup 4 1 10\nend\nscript 1\nfaulty 3\nstart zero\n"
-      ++ codes "start node 0 024000\nstart node 1 090000\nstart node 2 480000\n"
+      ++ codes "start node 0 0900\nstart node 1 1200\nstart node 2 4800\n"
       ++ codes "rounds 0\nshow 0 0\nend\n")
-      (codes "bound 41\nrow 0 4 4 4 *\nlocked 0\n")
+      (codes "bound 16\nrow 0 4 4 4 *\nlocked 0\n")
   pub counted : IsRunAs
       (codes "# a\npulses 1\ngroup 1 0 3\n\nend\n# b\nscript 1\n\nfaulty 0\n")
       (codes "refused script line 9 rule faults\n")
@@ -112,13 +112,13 @@ pub record SlotsAreSpelled : Type 0 where
       (codes "bound 0\nhold 1 1\nhold 2 1\nhold 3 .\nhold 4 1\nlocked 0\n")
   pub unlocked : IsHeldAs
       (codes "pulses 1\ngroup 4 1 10\nend\nslots 1\nslot 0 0 0\nslot 1 4 4\nend\nscript 1\n"
-      ++ codes "faulty 3\nstart zero\nstart node 1 090000\nrounds 0\nshow 0 0\nend\n")
-      (codes "bound 41\nhold 0 1 1 . *\nlocked none\n")
+      ++ codes "faulty 3\nstart zero\nstart node 1 1200\nrounds 0\nshow 0 0\nend\n")
+      (codes "bound 16\nhold 0 1 1 . *\nlocked none\n")
   pub locked : IsHeldAs
       (codes "pulses 1\ngroup 4 1 10\nend\nslots 1\nslot 3 0 3\nslot 1 4 9\nend\nscript 1\n"
-      ++ codes "faulty 3\nstart zero\nstart node 0 024000\nstart node 1 090000\n"
-      ++ codes "start node 2 480000\nrounds 0\nshow 0 0\nend\n")
-      (codes "bound 41\nhold 0 . 1 . *\nlocked 0\n")
+      ++ codes "faulty 3\nstart zero\nstart node 0 0900\nstart node 1 1200\n"
+      ++ codes "start node 2 4800\nrounds 0\nshow 0 0\nend\n")
+      (codes "bound 16\nhold 0 . 1 . *\nlocked 0\n")
   pub empty : IsHeldAs
       (codes "pulses 1\ngroup 1 0 3\nend\nslots 1\nend\nscript 1\nfaulty\nstart zero\n"
       ++ codes "rounds 0\nshow 0 0\nend\n")
@@ -170,7 +170,7 @@ pub record LayersAreSpelled : Type 0 where
   pub early : IsDecidedAs
       (codes "pulses 1\ngroup 4 1 6\nend\nagree 1\nvalues 2\ninputs 1 0 1 0\nend\nscript 1\n"
       ++ codes "faulty 3\nstart zero\nrounds 0\nshow 0 0\nend\n")
-      (codes "bound 41\nlocked none\n")
+      (codes "bound 16\nlocked none\n")
   pub form : IsDecidedAs (codes "pulses 1\ngroup 1 0 3\nend\nagree 1\nvalues 02\n")
       (codes "refused agree line 5 rule form\n")
   pub limit : IsDecidedAs (codes "pulses 1\ngroup 1 0 3\nend\nagree 1\nvalues 65537\n")
@@ -198,23 +198,23 @@ pub record LayersAreSpelled : Type 0 where
 pub record FourNodesAreSpelled : Type 0 where
   pub decided : IsDecidedAs
       (codes "pulses 1\ngroup 4 1 6\nend\n# on what\nagree 1\nvalues 3\n\ninputs 2 2 2 0\nend\n"
-      ++ codes "script 1\nfaulty 3\nstart zero\nstart node 0 008000\nstart node 1 020000\n"
-      ++ codes "start node 2 100000\nlie 0 47 3 to 0 1 copy 0\nlie 0 47 3 to all shift 2\n"
-      ++ codes "rounds 48\nshow 42 42\nend\n")
-      (codes "bound 41\nslot 42 2 2 2 *\nlocked 0\n")
+      ++ codes "script 1\nfaulty 3\nstart zero\nstart node 0 0200\nstart node 1 0400\n"
+      ++ codes "start node 2 1000\nlie 0 23 3 to 0 1 copy 0\nlie 0 23 3 to all shift 2\n"
+      ++ codes "rounds 24\nshow 18 18\nend\n")
+      (codes "bound 16\nslot 18 2 2 2 *\nlocked 0\n")
   pub fired : IsFiredAs
-      (codes "pulses 1\ngroup 4 1 6\nend\n# when\nfire 1\nrequest 0 41 41\nrequest 1 40 41\n\n"
-      ++ codes "request 2 41 43\nend\nscript 1\nfaulty 3\nstart zero\nstart node 0 008000\n"
-      ++ codes "start node 1 020000\nstart node 2 100000\nlie 0 53 3 to 0 1 copy 0\n"
-      ++ codes "lie 0 53 3 to all shift 2\nrounds 54\nshow 42 48\nend\n")
-      (codes "bound 41\nfire 42 1 1 1 *\nfire 48 . . . *\nlocked 0\n")
+      (codes "pulses 1\ngroup 4 1 6\nend\n# when\nfire 1\nrequest 0 17 17\nrequest 1 16 17\n\n"
+      ++ codes "request 2 17 19\nend\nscript 1\nfaulty 3\nstart zero\nstart node 0 0200\n"
+      ++ codes "start node 1 0400\nstart node 2 1000\nlie 0 29 3 to 0 1 copy 0\n"
+      ++ codes "lie 0 29 3 to all shift 2\nrounds 30\nshow 18 24\nend\n")
+      (codes "bound 16\nfire 18 1 1 1 *\nfire 24 . . . *\nlocked 0\n")
   pub logged : IsLoggedAs
       (codes "pulses 1\ngroup 4 1 28\nend\n# what\nlog 1\nvalues 3\nkeep 2\ncommands 0 1\n"
       ++ codes "commands 1 1\n\ncommands 2 2\ncommands 3 1 0\nend\nscript 1\nfaulty 3\n"
-      ++ codes "start zero\nstart node 0 00200000\nstart node 1 00800000\n"
-      ++ codes "start node 2 040000\nlie 0 55 3 to 0 1 copy 0\nlie 0 55 3 to all shift 2\n"
-      ++ codes "rounds 56\nshow 42 49\nend\n")
-      (codes "bound 41\nentry 42 owner 2 2 2 2 *\nentry 49 owner 3 1 1 1 *\nlocked 0\n")
+      ++ codes "start zero\nstart node 0 158000\nstart node 1 2b0000\n"
+      ++ codes "start node 2 ac0000\nlie 0 34 3 to 0 1 copy 0\nlie 0 34 3 to all shift 2\n"
+      ++ codes "rounds 35\nshow 21 28\nend\n")
+      (codes "bound 16\nentry 21 owner 2 2 2 2 *\nentry 28 owner 3 1 1 1 *\nlocked 0\n")
 
 -- The first line of a plan that fails, by its number and its premise, each premise; and a line of
 -- the node part of a header.
@@ -237,11 +237,11 @@ abbrev pub fifth : List ℕ
 fifth = codes "pulses 1\ngroup 1 0 8\nend\nnode 1\nid 0\nstate a0\nend\n"
 
 abbrev pub second : List ℕ
-second = codes "pulses 1\ngroup 4 1 10\nend\nnode 1\nid 1\nstate 000000\nend\n"
+second = codes "pulses 1\ngroup 4 1 10\nend\nnode 1\nid 1\nstate 0000\nend\n"
 
--- a cell of three bytes of zeros
+-- a cell of two bytes of zeros
 abbrev pub zeros : List ℕ
-zeros = 0 ∷ 3 ∷ 0 ∷ 0 ∷ 0 ∷ []
+zeros = 0 ∷ 2 ∷ 0 ∷ 0 ∷ []
 
 -- how a node ends on an input, and what it writes
 abbrev pub IsServedAs : (input : List ℕ) → Result ℕ (NodeError LinePremise) → (text : List ℕ)
@@ -256,10 +256,10 @@ pub record NodesAreServed : Type 0 where
   pub alone : IsServedAs (fifth ++ 0 ∷ 1 ∷ 255 ∷ 0 ∷ 0 ∷ []) (Ok 2)
       (0 ∷ 1 ∷ 160 ∷ 0 ∷ 1 ∷ 192 ∷ 0 ∷ 1 ∷ 224 ∷ [])
   pub packet : IsServedAs (second ++ (zeros ++ (zeros ++ (zeros ++ zeros)))) (Ok 1)
-      (zeros ++ 0 ∷ 3 ∷ 34 ∷ 32 ∷ 208 ∷ [])
-  pub cut : IsServedAs (second ++ (zeros ++ 0 ∷ 3 ∷ [])) (Err (node.Cut 0 1)) zeros
+      (zeros ++ 0 ∷ 2 ∷ 68 ∷ 0 ∷ [])
+  pub cut : IsServedAs (second ++ (zeros ++ 0 ∷ 2 ∷ [])) (Err (node.Cut 0 1)) zeros
   pub state : IsServedAs
-      (codes "pulses 1\ngroup 4 1 10\nend\nnode 1\nid 1\nstate 00000\nend\n")
+      (codes "pulses 1\ngroup 4 1 10\nend\nnode 1\nid 1\nstate 000\nend\n")
       (Err (node.Refused (header.Node 6 rule.Hex))) (codes "refused node line 6 rule hex\n")
   pub plan : IsServedAs (codes "pulses 1\ngroup 3 1 10\n")
       (Err (node.Refused (header.Plan 2 (line.Plan premise.Quorum))))

@@ -28,7 +28,7 @@ made_up script (suc j) = if slice_index script.key 7 == 6 then Some 3 else Some 
 -- Four nodes, of which node 3 is faulty. They start with zeros, and the last configuration is an
 -- era of its own, which puts the others into states whose first register is marked.
 abbrev pub put_at_last : Script
-put_at_last = record (empty_script 4 (record { depth = 4; fields = [] })) {
+put_at_last = record (empty_script 4 (record { depth = 2; fields = [] })) {
   faulty = 3 ∷ [];
   eras = record {
     first = 1;
@@ -37,7 +37,7 @@ put_at_last = record (empty_script 4 (record { depth = 4; fields = [] })) {
       node = v;
       state = record {
         x = 0;
-        registers = record { a = Some 4; d = true } ∷ replicate 3 zero_register;
+        registers = record { a = Some 4; d = true } ∷ replicate 1 zero_register;
       };
     }) (0 ∷ 1 ∷ 2 ∷ []);
   } ∷ [];
@@ -69,14 +69,14 @@ at_once = codes "bound 0\nera 0 locked 0 runs 3 seed 5\nera 2 locked 2 runs 3 se
 -- has none.
 pub record SweepsAreSpelled : Type 0 where
   pub key : key_of 258 ≡ replicate 6 0 ++ 1 ∷ 2 ∷ replicate 24 0
-  pub lines : sweep_text (record { bound = 41; locks = made_up; script = two_eras })
+  pub lines : sweep_text (record { bound = 16; locks = made_up; script = two_eras })
       (5 ∷ 6 ∷ 7 ∷ [])
-      ≡ codes "bound 41\nera 0 locked 2 runs 2 seed 5\nera 0 locked none runs 1 seed 6\n"
+      ≡ codes "bound 16\nera 0 locked 2 runs 2 seed 5\nera 0 locked none runs 1 seed 6\n"
       ++ codes "era 3 locked 3 runs 1 seed 6\nera 3 locked 4 runs 2 seed 5\n"
   pub plan : sweep_text (on_plan four put_at_last) (8 ∷ 9 ∷ [])
       ≡ codes "bound 576\nera 0 locked none runs 2 seed 8\nera 1 locked 1 runs 2 seed 8\n"
   pub pulses : sweep_text (on_machine four_pulses put_at_last) (8 ∷ 9 ∷ [])
-      ≡ codes "bound 41\nera 0 locked none runs 2 seed 8\nera 1 locked 1 runs 2 seed 8\n"
+      ≡ codes "bound 16\nera 0 locked none runs 2 seed 8\nera 1 locked 1 runs 2 seed 8\n"
   pub single : sweep_of (record { first = 5; count = 3 })
       (codes "plan 1\nbase 3\nend\n" ++ one_node) ≡ Ok at_once
   pub single_pulses : sweep_of (record { first = 5; count = 3 })

@@ -1,4 +1,4 @@
-use Rattle.std.proofs.Common.{ℕ, ◌<◌, ◌≤◌, ap, arith}
+use Rattle.std.proofs.Common.{ℕ, ◌<◌, ap, arith}
 use Rattle.pulse_plan.specs.Groups.{PulseGroup, tree_in}
 use Rattle.pulse_plan.specs.Sizes.{most_bits}
 use Rattle.pulse_plan.proofs.GroupSizes.{bits_by_level}

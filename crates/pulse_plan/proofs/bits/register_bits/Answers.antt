@@ -1,4 +1,4 @@
-use Rattle.std.proofs.Common.{◌≤◌, arith}
+use Rattle.std.proofs.Common.{arith}
 use Rattle.pulse_plan.proofs.bits.register_bits.Goals as goal
 
 pub overflow_add-result : goal.overflow_add-result

@@ -1,17 +1,31 @@
-use Rattle.std.proofs.Common.{◌<◌, arith}
-use Rattle.pulse_plan.proofs.Numbers.{bound_of_halving}
+use Rattle.std.proofs.Common.{◌≡◌, ℕ, ◌-◌, ◌<◌, ap, ap₂, sym, ◌∙◌, arith}
+use Rattle.pulse_plan.specs.Halvings.{halving_bound, halving_of, left_part, right_part}
+use Rattle.pulse_plan.specs.Halvings.{bound_over}
+use Rattle.pulse_plan.proofs.Numbers.{bound_of_halving, of_faults}
 use Rattle.pulse_plan.proofs.Trees.{bound_of_halves}
 use Rattle.pulse_plan.proofs.bounds.+bound_of.Goals as goal
 
+bound_is : (f l left right : ℕ) → l ≡ left_part f → left ≡ halving_bound (halving_of l 0)
+    → right ≡ halving_bound (halving_of (f - 1 - l) 0)
+    → bound_over (of_faults l (f - 1 - l)) left right
+    ≡ bound_over (of_faults (left_part f) (right_part f))
+    (halving_bound (halving_of (left_part f) 0)) (halving_bound (halving_of (right_part f) 0))
+bound_is f l left right part left_is right_is =
+    ap₂ (bound_over (of_faults l (f - 1 - l))) left_is right_is
+    ∙ ap (λ l. bound_over (of_faults l (f - 1 - l)) (halving_bound (halving_of l 0))
+    (halving_bound (halving_of (f - 1 - l) 0))) part
+
 pub returns-clause-value : goal.returns-clause-value
 returns-clause-value t c = λ spares.
-    let some : 0 < c.args.faults = omega arith in
-    omega (
-      arith,
-      bound_of_halves c.args.faults spares some,
-      c.bound_of-left.ensures.value 0,
-      c.bound_of-right.ensures.value 0,
-    )
+    let f = c.args.faults in
+    let l = c.left_part-left_faults.result in
+    let some : 0 < f = omega arith in
+    let left = c.bound_of-left.result in
+    let right = c.bound_of-right.result in
+    c.max.ensures
+    ∙ (ap₂ (λ a b. bound_over (of_faults a b) left right) c.from.ensures c.from-2.ensures
+    ∙ (bound_is f l left right c.left_part-left_faults.ensures (c.bound_of-left.ensures.value 0)
+    (c.bound_of-right.ensures.value 0) ∙ sym (bound_of_halves f spares some)))
 
 pub returns-clause-most : goal.returns-clause-most
 returns-clause-most t c =

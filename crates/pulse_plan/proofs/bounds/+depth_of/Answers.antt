@@ -1,8 +1,14 @@
-use Rattle.std.proofs.Common.{◌<◌, arith}
+use Rattle.std.proofs.Common.{◌-◌, ◌<◌, ap, arith}
+use Rattle.pulse_plan.specs.Halvings.{halving_height, halving_of}
 use Rattle.pulse_plan.proofs.Trees.{height_of}
 use Rattle.pulse_plan.proofs.bounds.+depth_of.Goals as goal
 
 pub returns-clause-value : goal.returns-clause-value
 returns-clause-value t c = λ spares.
     let some : 0 < c.args.faults = omega arith in
-    omega (arith, height_of c.args.faults spares some, c.depth_of.ensures.value 0)
+    omega (
+      arith,
+      height_of c.args.faults spares some,
+      c.depth_of.ensures.value 0,
+      ap (λ l. halving_height (halving_of (c.args.faults - 1 - l) 0)) c.left_part-left.ensures,
+    )

@@ -1,7 +1,6 @@
-use Rattle.std.proofs.Common.{◌≡◌, ℕ, zero, suc, ◌+◌, ◌-◌, ◌*◌, ◌<◌, refl, arith}
-use Rattle.pulse_plan.specs.Halvings.{halving_nodes, halving_of}
-use Rattle.pulse_plan.proofs.Numbers.{faults_of_halving, nodes_of_halving, bound_of_halving}
-use Rattle.pulse_plan.proofs.Settles.{one_half_is_sound, pulses_settle}
+use Rattle.std.proofs.Common.{◌+◌, ◌-◌, ◌*◌}
+use Rattle.pulse_plan.proofs.Numbers.{faults_of_halving, bound_of_halving}
+use Rattle.pulse_plan.proofs.Settles.{one_half_is_sound, halves_settle}
 use Rattle.pulse_plan.proofs.RunLaws.{every_halving_settles}
 use Rattle.pulse_plan.specs.Plans.{tree_of}
 use Rattle.pulse_plan.proofs.Trees.{nodes_of_tree}
@@ -13,6 +12,6 @@ returns c = λ plan is. record {
   faults = faults_of_halving plan.faults (plan.nodes - (3 * plan.faults + 1));
   bound = bound_of_halving plan.faults (plan.nodes - (3 * plan.faults + 1));
   settles =
-      every_halving_settles one_half_is_sound pulses_settle (tree_of plan) plan.modulus
+      every_halving_settles one_half_is_sound halves_settle (tree_of plan) plan.modulus
       is.least_modulus;
 }

@@ -5,7 +5,7 @@ use Rattle.pulse_plan.specs.Groups.{PulseGroup}
 use Rattle.pulse_plan.specs.MachineGroups.{HasGroup, overlaid}
 use Rattle.pulse_plan.specs.PulseMachineHearing.{level_state_heard}
 use Rattle.pulse_plan.specs.PulseMachineLevelStates.{with_level_state_at}
-use Rattle.pulse_plan.proofs.Depths.{four_deep}
+use Rattle.pulse_plan.proofs.Depths.{two_deep}
 use Rattle.pulse_plan.proofs.Stretches.{steps_by_stretches, step_by, step_in_half}
 use Rattle.pulse_plan.proofs.PulseMachineWritten.{length_with_level_state_at, overlaid_after}
 use Rattle.pulse_plan.proofs.steps.+step_group.Goals as goal
@@ -13,7 +13,7 @@ use Rattle.pulse_plan.proofs.steps.+step_group.Goals as goal
 pub write-requires : goal.write-requires
 write-requires t c =
     let some : 0 < c.args.group.now.faults = omega arith in
-    four_deep c.args.group.now c.args.out.now some c.requires.out
+    two_deep c.args.group.now c.args.out.now some c.requires.out
 
 pub step_group-requires : goal.step_group-requires
 step_group-requires t c =
@@ -21,9 +21,9 @@ step_group-requires t c =
     let some : 0 < g.faults = omega arith in
     let fits = c.in-Some.ensures.half c.requires.first in
     let out = c.args.out.now in
-    let four = four_deep g out some c.requires.out in
+    let two = two_deep g out some c.requires.out in
     let size =
-    length_with_level_state_at g.register g.faults c.new_level_state-level_state.result out four
+    length_with_level_state_at g.register c.new_level_state-level_state.result out two
     in
     let inner = fits.registers in
     let deep : HasGroup c.in-Some.half c.write.new.state =
@@ -57,17 +57,17 @@ returns-in-Some-clause-out t c =
     let out = c.args.out.now in
     let half = c.in-Some.half in
     let some : 0 < g.faults = omega arith in
-    let four = four_deep g out some c.requires.out in
+    let two = two_deep g out some c.requires.out in
     let fits = c.in-Some.ensures.half c.requires.first in
     let level_state = level_state_heard g v heard in
     c.step_group.ensures.out
     ∙ (ap (λ r. overlaid r (step_by half v heard) c.write.new.state) fits.register
-    ∙ (ap (overlaid (g.register + 4) (step_by half v heard)) (c.write.ensures
-    ∙ ap (λ p. with_level_state_at g.register g.faults p out)
+    ∙ (ap (overlaid (g.register + 2) (step_by half v heard)) (c.write.ensures
+    ∙ ap (λ p. with_level_state_at g.register p out)
     c.new_level_state-level_state.ensures.level_state)
-    ∙ (overlaid_after g.register g.faults level_state (step_by half v heard) out four
+    ∙ (overlaid_after g.register level_state (step_by half v heard) out two
     ∙ (ap (λ (o : Option PulseGroup). overlaid g.register
-    (with_level_state g.faults level_state (step_in_half o v heard))
+    (with_level_state level_state (step_in_half o v heard))
     out) c.in-Some.ensures.value
     ∙ ap (λ s. overlaid g.register s out) (sym (steps_by_stretches g v heard c.facts.ensures some
     c.requires.first c.requires.last c.requires.within))))))
@@ -82,10 +82,10 @@ returns-in-None-clause-out t c =
     let level_state = level_state_heard g v heard in
     c.set_x-in-None.ensures
     ∙ (ap (λ (s : State). record s { x = 0 }) (c.write.ensures
-    ∙ ap (λ p. with_level_state_at g.register g.faults p out)
+    ∙ ap (λ p. with_level_state_at g.register p out)
     c.new_level_state-level_state.ensures.level_state)
     ∙ (ap (λ (o : Option PulseGroup). overlaid g.register
-    (with_level_state g.faults level_state (step_in_half o v heard))
+    (with_level_state level_state (step_in_half o v heard))
     out) c.in-None.ensures.value
     ∙ ap (λ s. overlaid g.register s out) (sym (steps_by_stretches g v heard c.facts.ensures some
     c.requires.first c.requires.last c.requires.within))))

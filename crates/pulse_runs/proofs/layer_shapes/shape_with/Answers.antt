@@ -7,6 +7,7 @@ use Rattle.pulse_plan.proofs.FewBits.{few_bits}
 use Rattle.pulse_plan.specs.Runs.{all_fields}
 use Rattle.pulse_plan.specs.Plans.{tree_of}
 use Rattle.pulse_texts.proofs.Shaped.{deep}
+use Rattle.pulse_texts.proofs.PlanBits.{few_registers}
 use Rattle.pulse_runs.specs.LayerShapes.{shape_with}
 use Rattle.pulse_runs.proofs.LayerShaped as law
 use Rattle.pulse_runs.proofs.layer_shapes.shape_with.Goals as goal
@@ -24,7 +25,7 @@ fields_with-requires-clause-small c =
     let plan = c.args.plan.now in
     let own = law.own_is plan c.in_ok-own.own.items c.in_ok-own.ensures c.loop-v.v
     c.index.result.now (omega (arith, c.loop-v-test.true, c.len-v-end.ensures)) c.index.ensures in
-    subst (λ (f : Fields). bits_in f ≤ 715) (sym own.1)
+    subst (λ (f : Fields). bits_in f ≤ 464) (sym own.1)
     (few_bits plan c.facts.ensures c.loop-v.v)
 
 pub loop-v-preserved : goal.loop-v-preserved
@@ -93,3 +94,12 @@ returns c =
     IfOk-weaker c.by_node.result _ _ (λ shape is. is
     ∙ ap₂ (λ (n : ℕ) (fs : List Fields). record { depth = n + c.args.count; fields = fs })
     c.depth-depth.ensures (c.deref.ensures.value ∙ made)) c.by_node.ensures
+
+pub overflow_add-depth : goal.overflow_add-depth
+overflow_add-depth c =
+    omega (
+      arith,
+      few_registers c.args.plan.now c.facts.ensures,
+      c.depth-depth.ensures,
+      c.requires.few,
+    )
