@@ -47,7 +47,7 @@ enum {
     COUNTERLAB_QUORUM,
     COUNTERLAB_SHARE,
     COUNTERLAB_MULTIPLE,
-    COUNTERLAB_SINGLE /* of a pulse plan: it tolerates no faults, and has more than one node */
+    COUNTERLAB_SINGLE /* of a halving plan: it tolerates no faults, and has more than one node */
 };
 
 /* The numbers of a plan. */

@@ -26,7 +26,7 @@ four = plan.Boosting (record {
 })
 
 abbrev pub seven : AnyPlan
-seven = plan.Pulses (record { nodes = 7; faults = 2; modulus = 10 })
+seven = plan.Halving (record { nodes = 7; faults = 2; modulus = 10 })
 
 -- ---- texts
 

@@ -1,4 +1,4 @@
--- No plan is better than the pulse plan of fewest nodes, if a fault is to be tolerated.
+-- No plan is better than the halving plan of fewest nodes, if a fault is to be tolerated.
 use Rattle.std.proofs.Common.{ℕ, ◌+◌, ◌-◌, ◌*◌, ◌<◌, ◌≤◌, ◌^◌, List, [], ◌∷◌, refl}
 use Rattle.std.proofs.Common.{arith}
 use Rattle.std.specs.Prelude.{Some}
@@ -9,13 +9,13 @@ use Rattle.construction.specs.Plans.{Level, Plan, bound_of}
 use Rattle.plan_numbers.specs.Numbers.{below_of}
 use Rattle.plan_numbers.proofs.Accepted.{meets, accepted_sized}
 use Rattle.plan_finder.specs.Steps.{cost_of}
-use Rattle.pulse_plan.specs.Halvings.{halving_bound}
-use Rattle.pulse_plan.proofs.Numbers.{bound_of_halving}
-use Rattle.pulse_plan.specs.Plans.{PulseNumbers, tree_of}
-use Rattle.pulse_plan.specs.Plans as pulses
-use Rattle.pulse_plan.proofs.Trees.{bounds_rise}
+use Rattle.halving_plan.specs.Trees.{tree_bound}
+use Rattle.halving_plan.proofs.Numbers.{bound_of_tree}
+use Rattle.halving_plan.specs.Plans.{HalvingNumbers, tree_of}
+use Rattle.halving_plan.specs.Plans as halving
+use Rattle.halving_plan.proofs.Trees.{bounds_rise}
 use Rattle.choose.specs.declared.any_plans.AnyPlan.{AnyPlan}
-use Rattle.choose.specs.declared.any_plans.AnyPlan.TheVariants.{Boosting, Pulses}
+use Rattle.choose.specs.declared.any_plans.AnyPlan.TheVariants.{Boosting, Halving}
 use Rattle.choose.specs.Fronts.{Bears}
 use Rattle.choose.specs.FrontsOfBoth as both
 use Rattle.choose.specs.FrontsOfBoth.{Tolerates, Suits, IsNoWorse, IsFrontOfBoth}
@@ -61,7 +61,7 @@ boosting_bears n f plan tolerates = record {
 pub quorum_of : (plan : AnyPlan) → both.IsAccepted plan
     → 3 * both.faults_of plan < both.nodes_of plan
 quorum_of (Boosting plan) accepted = (accepted_sized plan.base plan.levels accepted.levels).quorum
-quorum_of (Pulses plan) accepted = accepted.quorum
+quorum_of (Halving plan) accepted = accepted.quorum
 
 pub more_nodes : (n f : ℕ) (plan : AnyPlan) → Tolerates n f plan → 3 * f < both.nodes_of plan
 more_nodes n f plan tolerates =
@@ -98,11 +98,11 @@ lone_front c most some least_c most_c =
 
 -- ---- some faults
 
-abbrev pub fewest : (f c : ℕ) → PulseNumbers
+abbrev pub fewest : (f c : ℕ) → HalvingNumbers
 fewest f c = record { nodes = 3 * f + 1; faults = f; modulus = c }
 
 pub fewest_accepted : (f c : ℕ) → 1 ≤ f → f ≤ 85 → 2 ≤ c → c ≤ 2 ^ 40
-    → pulses.IsAccepted (fewest f c)
+    → halving.IsAccepted (fewest f c)
 fewest_accepted f c some few least_c most_c = record {
   most_nodes = omega (arith, few);
   least_modulus = least_c;
@@ -114,18 +114,18 @@ fewest_accepted f c some few least_c most_c = record {
 module _ (f c most : ℕ) (some : 1 ≤ f) (few : f ≤ 85) (least_c : 2 ≤ c) (most_c : c ≤ 2 ^ 40)
     (room : 3 * f < most) where
   pub no_slower : (other : AnyPlan) → Tolerates most f other
-      → halving_bound (tree_of (fewest f c)) ≤ both.bound_of other
+      → tree_bound (tree_of (fewest f c)) ≤ both.bound_of other
   no_slower (Boosting plan) tolerates =
-      let fast = bound_of_halving f (3 * f + 1 - (3 * f + 1)) in
+      let fast = bound_of_tree f (3 * f + 1 - (3 * f + 1)) in
       let slow = slow_by most f some plan.version plan.base plan.levels
       (boosting_bears most f plan tolerates) in
       omega (arith, fast, slow)
-  no_slower (Pulses plan) tolerates =
+  no_slower (Halving plan) tolerates =
       bounds_rise f plan.faults (3 * f + 1 - (3 * f + 1)) (plan.nodes - (3 * plan.faults + 1))
       tolerates.faults
 
-  pub fewest_front : IsFrontOfBoth f c most (Some (Pulses (fewest f c)))
-  fewest_front = one_front f c most (Pulses (fewest f c)) (record {
+  pub fewest_front : IsFrontOfBoth f c most (Some (Halving (fewest f c)))
+  fewest_front = one_front f c most (Halving (fewest f c)) (record {
     tolerates = record {
       accepted = fewest_accepted f c some few least_c most_c;
       nodes = omega (arith, room);

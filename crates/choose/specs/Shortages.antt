@@ -5,7 +5,7 @@ use Rattle.std.specs.List.{concat}
 use Rattle.construction.specs.Plans.{Plan}
 use Rattle.plan_finder.specs.declared.wants.Want.{Want}
 use Rattle.choose.specs.declared.any_plans.AnyPlan.{AnyPlan}
-use Rattle.choose.specs.declared.any_plans.AnyPlan.TheVariants.{Boosting, Pulses}
+use Rattle.choose.specs.declared.any_plans.AnyPlan.TheVariants.{Boosting, Halving}
 use Rattle.choose.specs.declared.requests.Scope.{Scope}
 use Rattle.choose.specs.declared.requests.Scope.TheVariants as scope
 use Rattle.choose.specs.declared.shortages.Shortage.{Shortage}
@@ -16,7 +16,7 @@ use Rattle.choose.specs.FrontsOfBoth.{Tolerates, IsFrontOf}
 abbrev pub IsIn : Scope → AnyPlan → Type 0
 IsIn scope.Both plan = Unit {0}
 IsIn scope.Boosting (Boosting plan) = Unit {0}
-IsIn scope.Boosting (Pulses plan) = ⊥
+IsIn scope.Boosting (Halving plan) = ⊥
 
 -- an accepted one of them, whatever it counts by, tolerates f faults, or more, with at most n nodes
 abbrev pub CanTolerate : Scope → (n f : ℕ) → Type 0

@@ -1,7 +1,7 @@
 //! The laws of what is written. The functions are empty: their clauses are the laws.
 
 ghost use Rattle.choose.specs.FrontText.{TextsArePlans};
-ghost use Rattle.choose.specs.FrontsOfBothText.{PulseTextsArePlans};
+ghost use Rattle.choose.specs.FrontsOfBothText.{HalvingTextsArePlans};
 ghost use Rattle.choose.specs.Shortages.{ModulusDecidesNothing};
 
 /// The text of an accepted plan of version 2 is read as that plan, and is what a line says of the
@@ -10,10 +10,10 @@ pub fn texts_are_plans()
     ensures { TextsArePlans }
 {}
 
-/// The text of an accepted pulse plan is read as that plan, and is what a line says of the plan,
+/// The text of an accepted halving plan is read as that plan, and is what a line says of the plan,
 /// with a newline in place of each semicolon.
-pub fn pulse_texts_are_plans()
-    ensures { PulseTextsArePlans }
+pub fn halving_texts_are_plans()
+    ensures { HalvingTextsArePlans }
 {}
 
 /// Whether a front has a plan depends on no modulus: it has none exactly if no accepted plan of

@@ -6,7 +6,7 @@ abbrev pub help_text : List ℕ
 help_text = concat (
     codes "usage: sweep FIRST COUNT\n"
     ∷ codes "Reads a plan and a script from standard input, as counterlab run does,\n"
-    ∷ codes "or a pulse plan and a script, as pulselab run does,\n"
+    ∷ codes "or a halving plan and a script, as halvinglab run does,\n"
     ∷ codes "plays the script with the keys of COUNT numbers from FIRST on,\n"
     ∷ codes "and writes the plan's bound, and for each era how many runs first lock\n"
     ∷ codes "with which configuration, and the least number of these. The key of a\n"

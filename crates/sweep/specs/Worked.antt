@@ -5,7 +5,7 @@ use Rattle.sync_types.specs.States.{zero_register}
 use Rattle.construction.specs.Plans.{Plan}
 use Rattle.machines.specs.Machines.{Machine}
 use Rattle.adversary_script.specs.Scripts.{Script, empty_script}
-use Rattle.pulse_plan.specs.Laws.{machine_in}
+use Rattle.halving_plan.specs.Laws.{machine_in}
 use Rattle.sweep.specs.Keys.{key_of}
 use Rattle.sweep.specs.Sweeps.{Locks, on_plan, on_machine}
 use Rattle.sweep.specs.SweepTexts.{sweep_text}
@@ -44,7 +44,7 @@ put_at_last = record (empty_script 4 (record { depth = 2; fields = [] })) {
   rounds = 1;
 }
 
--- four nodes that count modulo 10, of a plan with one level of three blocks, and of a pulse plan
+-- four nodes that count modulo 10, of a plan with one level of three blocks, and of a halving plan
 abbrev pub four : Plan
 four = record {
   version = 2;
@@ -52,8 +52,8 @@ four = record {
   levels = record { blocks = 3; faults = 1; modulus = 10; spares = 1 } ∷ [];
 }
 
-abbrev pub four_pulses : Machine
-four_pulses = machine_in (record { nodes = 4; faults = 1; modulus = 10 })
+abbrev pub four_halving : Machine
+four_halving = machine_in (record { nodes = 4; faults = 1; modulus = 10 })
 
 -- what an input of one node that starts in noise, in two eras, has behind its plan
 abbrev pub one_node : List ℕ
@@ -75,12 +75,12 @@ pub record SweepsAreSpelled : Type 0 where
       ++ codes "era 3 locked 3 runs 1 seed 6\nera 3 locked 4 runs 2 seed 5\n"
   pub plan : sweep_text (on_plan four put_at_last) (8 ∷ 9 ∷ [])
       ≡ codes "bound 576\nera 0 locked none runs 2 seed 8\nera 1 locked 1 runs 2 seed 8\n"
-  pub pulses : sweep_text (on_machine four_pulses put_at_last) (8 ∷ 9 ∷ [])
+  pub halving : sweep_text (on_machine four_halving put_at_last) (8 ∷ 9 ∷ [])
       ≡ codes "bound 16\nera 0 locked none runs 2 seed 8\nera 1 locked 1 runs 2 seed 8\n"
   pub single : sweep_of (record { first = 5; count = 3 })
       (codes "plan 1\nbase 3\nend\n" ++ one_node) ≡ Ok at_once
-  pub single_pulses : sweep_of (record { first = 5; count = 3 })
-      (codes "pulses 1\ngroup 1 0 3\nend\n" ++ one_node) ≡ Ok at_once
+  pub single_halving : sweep_of (record { first = 5; count = 3 })
+      (codes "halving 1\ngroup 1 0 3\nend\n" ++ one_node) ≡ Ok at_once
   pub silent : sweep_of (record { first = 5; count = 3 })
       (codes "plan 1\nbase 3\nend\nscript 1\nfaulty\nstart zero\nrounds 3\nshow 0 3\nend\n")
       ≡ Err reason.NoNoise

@@ -1,0 +1,13 @@
+//! The laws of sizes. The functions are empty: their clauses are the laws.
+
+ghost use Rattle.halving_plan.specs.Sizes.{BitsAreMost, BitsAreWritten};
+
+/// No node of an accepted plan has states of more bits, and one has states of so many.
+pub fn bits_are_most()
+    ensures { BitsAreMost }
+{}
+
+/// They are the bits of the states that the plan's machine reads and writes.
+pub fn bits_are_written()
+    ensures { BitsAreWritten }
+{}
