@@ -25,11 +25,11 @@ build() { # a program, by its crate
     (cd "crates/$1" && rt run -- --version > /dev/null) || [ -x "crates/$1/out/$1" ]
 }
 
-for program in counterlab pulselab attack choose draw states sweep trace; do
+for program in counterlab halvinglab attack choose draw states sweep trace; do
     [ -d "crates/$program" ] || continue
     build "$program"
     case $program in
-    counterlab | pulselab) name=$program ;;
+    counterlab | halvinglab) name=$program ;;
     *) name=counterlab-$program ;;
     esac
     install -D -m 755 "crates/$program/out/$program" "$prefix/bin/$name"

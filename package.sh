@@ -70,14 +70,14 @@ enter() { # runs a program of the package in that root
 }
 
 if enter counterlab-choose --version > /dev/null 2>&1; then
-    for program in pulselab counterlab-attack counterlab-choose counterlab-draw counterlab-states \
+    for program in halvinglab counterlab-attack counterlab-choose counterlab-draw counterlab-states \
         counterlab-sweep counterlab-trace; do
         [ "$(enter $program --version | cut -d ' ' -f 2)" = "$(cat VERSION)" ] ||
             { echo "$program says another version than VERSION" >&2; exit 1; }
     done
     enter counterlab $(cat crates/counterlab/args) < "$root/input" | cmp - crates/counterlab/stdout
     enter counterlab demo 7 | enter counterlab-draw > "$root/demo.svg"
-    enter counterlab-choose 3 1000 14 plan | enter pulselab plan > "$root/table"
+    enter counterlab-choose 3 1000 14 plan | enter halvinglab plan > "$root/table"
     echo "the programs run in an empty root"
 else
     echo "not tried: no other root can be entered here"

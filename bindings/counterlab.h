@@ -13,7 +13,7 @@
 #include <stddef.h>
 #include <stdint.h>
 
-#define COUNTERLAB_VERSION "1.0" /* of the repository: its file VERSION */
+#define COUNTERLAB_VERSION "2.0" /* of the repository: its file VERSION */
 
 /* What a call answers. */
 struct counterlab_answer {
@@ -47,7 +47,7 @@ enum {
     COUNTERLAB_QUORUM,
     COUNTERLAB_SHARE,
     COUNTERLAB_MULTIPLE,
-    COUNTERLAB_SINGLE /* of a pulse plan: it tolerates no faults, and has more than one node */
+    COUNTERLAB_SINGLE /* of a halving plan: it tolerates no faults, and has more than one node */
 };
 
 /* The numbers of a plan. */

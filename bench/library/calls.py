@@ -1,5 +1,5 @@
-"""What the calls of the library answer, by the plain steps of bench/tools/: counter.py, and of pulse
-plans pulse_counter.py.
+"""What the calls of the library answer, by the plain steps of bench/tools/: counter.py, and of halving
+plans halving_counter.py.
 
 The library is tried against it. It shares nothing with the proved code.
 """
@@ -10,7 +10,7 @@ import sys
 sys.path.insert(0, str(pathlib.Path(__file__).resolve().parent.parent / "tools"))
 
 import counter
-import pulse_counter
+import halving_counter
 
 MOST_PACKETS = 1000000
 
@@ -21,9 +21,9 @@ def plan_of(base, rows):
     return counter.Plan(["plan 2", f"base {base}", *lines, "end"])
 
 
-def pulse_plan_of(nodes, faults, modulus):
-    """The pulse plan of these numbers."""
-    return pulse_counter.Plan(["pulses 1", f"group {nodes} {faults} {modulus}", "end"])
+def halving_plan_of(nodes, faults, modulus):
+    """The halving plan of these numbers."""
+    return halving_counter.Plan(["halving 1", f"group {nodes} {faults} {modulus}", "end"])
 
 
 def text_of(plan):

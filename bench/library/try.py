@@ -24,8 +24,8 @@ import tempfile
 import time
 
 import calls
-import pulse_counter
-import pulse_vectors
+import halving_counter
+import halving_vectors
 import vectors
 
 HERE = pathlib.Path(__file__).resolve().parent
@@ -49,20 +49,20 @@ PLANS = [
     calls.plan_of(576, [(3, 1, 960, 1), (3, 3, 10, 0)]),
     calls.plan_of(93312, [(5, 2, 10, 2)]),
     calls.plan_of(576, [(3, 1, 768, 1), (3, 2, 1152, 0), (3, 4, 10, 0)]),
-    calls.pulse_plan_of(4, 1, 10),
-    calls.pulse_plan_of(7, 2, 1000),
-    calls.pulse_plan_of(14, 4, 10),
+    calls.halving_plan_of(4, 1, 10),
+    calls.halving_plan_of(7, 2, 1000),
+    calls.halving_plan_of(14, 4, 10),
 ]
 
-# Texts of pulse plans that are refused, with the line and the premise that fail.
-REFUSED_PULSES = [
-    ("pulses 2\n", 1, "form"),
-    ("pulses 1\nend\n", 2, "form"),
-    ("pulses 1\ngroup 13 4 10\n", 3, "form"),
-    ("pulses 1\ngroup 257 4 10\nend\n", 2, "limit"),
-    ("pulses 1\ngroup 13 4 1\nend\n", 2, "modulus"),
-    ("pulses 1\ngroup 12 4 10\nend\n", 2, "quorum"),
-    ("pulses 1\ngroup 2 0 10\nend\n", 2, "single"),
+# Texts of halving plans that are refused, with the line and the premise that fail.
+REFUSED_HALVING = [
+    ("halving 2\n", 1, "form"),
+    ("halving 1\nend\n", 2, "form"),
+    ("halving 1\ngroup 13 4 10\n", 3, "form"),
+    ("halving 1\ngroup 257 4 10\nend\n", 2, "limit"),
+    ("halving 1\ngroup 13 4 1\nend\n", 2, "modulus"),
+    ("halving 1\ngroup 12 4 10\nend\n", 2, "quorum"),
+    ("halving 1\ngroup 2 0 10\nend\n", 2, "single"),
 ]
 
 
@@ -222,16 +222,16 @@ def some_fields(source, plan):
 
 
 def some_common(source, plan):
-    """What nodes have in common: two states, and how many of them have the second one. Of a pulse
+    """What nodes have in common: two states, and how many of them have the second one. Of a halving
     plan a state of each node."""
-    if isinstance(plan, pulse_counter.Plan):
-        return pulse_vectors.drawn_states(vectors.Draws(source.random()), plan)
+    if isinstance(plan, halving_counter.Plan):
+        return halving_vectors.drawn_states(vectors.Draws(source.random()), plan)
     return some_fields(source, plan), some_fields(source, plan), source.choice([0.05, 0.3, 0.5])
 
 
 def some_state(source, plan, node, common):
     """The bytes of a state in range; nine fields of ten are those of one of the common states."""
-    if isinstance(plan, pulse_counter.Plan):
+    if isinstance(plan, halving_counter.Plan):
         return common[node]
     first, second, share = common
     fields = some_fields(source, plan)
@@ -289,7 +289,7 @@ def refused_plans():
         words = file.read_text().split()
         text = file.with_name(file.name[: -len(".plan.out")] + ".txt").read_bytes()
         yield text, int(words[3]), 1 + PREMISES.index(words[5])
-    for text, line, premise in REFUSED_PULSES:
+    for text, line, premise in REFUSED_HALVING:
         yield text.encode(), line, 1 + PREMISES.index(premise)
 
 
@@ -302,7 +302,7 @@ def plan_numbers():
         names = ["nodes", "faults", "modulus", "bound", "bytes"]
         yield " ".join([hexed(text), *(numbers[name] for name in names)]) + "\n"
     for plan in PLANS:
-        if isinstance(plan, pulse_counter.Plan):
+        if isinstance(plan, halving_counter.Plan):
             numbers = [plan.nodes, plan.faults, plan.modulus, plan.bound, plan.bytes(0)]
             yield " ".join([hexed(calls.text_of(plan)), *map(str, numbers)]) + "\n"
 
@@ -379,7 +379,7 @@ class Tried:
     def first(self):
         """four_nodes.c against the same rounds by the plain step."""
         found = run([self.link("gcc", "four_nodes", at=FIRST)]).decode()
-        plan = calls.pulse_plan_of(4, 1, 10)
+        plan = calls.halving_plan_of(4, 1, 10)
         states = [b"\x3f\xff\xff", b"\x12\x34\x56", b"\x00\x14\x07", b"\xff\x00\x00"]
         rows = []
         for t in range(13):
@@ -472,7 +472,7 @@ class Tried:
         if not PROGRAM.is_file():
             raise Skipped("the program is not built")
         for (plan, node, state, packets), answer in zip(self.steps, self.answers):
-            if isinstance(plan, pulse_counter.Plan):
+            if isinstance(plan, halving_counter.Plan):
                 continue
             text, digits = calls.text_of(plan), state.hex()
             header = text + f"node 1\nid {node}\nstate {digits}\nend\n".encode()

@@ -23,7 +23,7 @@ import random
 import subprocess
 import sys
 
-from pulse_counter import plan_of
+from halving_counter import plan_of
 
 LONGEST = 600  # bytes of a cell that is made up
 MARGIN = 100  # packets after a bound

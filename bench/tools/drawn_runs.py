@@ -1,11 +1,11 @@
 """Draws inputs of a word, and writes beside each what on_the_counter.py answers to it.
 
     python3 bench/tools/drawn_runs.py WORD COUNT FOLDER [SEED]
-    python3 bench/tools/drawn_runs.py pulses WORD COUNT FOLDER [SEED]
+    python3 bench/tools/drawn_runs.py halving WORD COUNT FOLDER [SEED]
 
 WORD is run, slots, consensus, fire or log. FOLDER gets COUNT files NAME, each an input that
-`counterlab` accepts, or by `pulses` one of `pulselab`, and NAME.stdout. The boosting plans have one
-to three levels, some with spare nodes, the pulse plans one to sixteen nodes; the scripts have up to
+`counterlab` accepts, or by `halving` one of `halvinglab`, and NAME.stdout. The boosting plans have one
+to three levels, some with spare nodes, the halving plans one to sixteen nodes; the scripts have up to
 three eras, and lies of every kind. They are the same each time.
 """
 
@@ -13,7 +13,7 @@ import os
 import sys
 
 from on_the_counter import answer
-from pulse_counter import plan_of
+from halving_counter import plan_of
 from vectors import Draws
 
 # levels as blocks, faults and spares, from the lowest up; each tenth plan has three of them
@@ -28,7 +28,7 @@ SHAPES = [
     [(3, 1, 1), (3, 3, 1)],
     [(3, 1, 2)],
 ]
-# the nodes and faults of pulse plans
+# the nodes and faults of halving plans
 GROUPS = [(4, 1), (7, 2), (5, 1), (10, 3), (4, 1), (13, 4), (1, 0), (8, 2), (16, 5), (6, 1)]
 LARGE = [
     [(3, 0, 0), (3, 1, 0), (3, 2, 0)],
@@ -56,11 +56,11 @@ def drawn_modulus(draws, word, nodes, faults):
     return slot_of(word, faults) * (nodes if word == "log" else 1) * (1 + draws.below(3))
 
 
-def drawn_pulses(draws, group, word):
-    """A pulse plan of so many nodes and faults."""
+def drawn_halving(draws, group, word):
+    """A halving plan of so many nodes and faults."""
     nodes, faults = group
     modulus = drawn_modulus(draws, word, nodes, faults)
-    return plan_of(["pulses 1", f"group {nodes} {faults} {modulus}", "end"])
+    return plan_of(["halving 1", f"group {nodes} {faults} {modulus}", "end"])
 
 
 def drawn_plan(draws, shape, word):
@@ -210,14 +210,14 @@ def drawn_input(draws, word, plan):
 
 def main():
     given = sys.argv[1:]
-    is_pulses = given[0] == "pulses"
-    word, count, folder, *seeds = given[1:] if is_pulses else given
+    is_halving = given[0] == "halving"
+    word, count, folder, *seeds = given[1:] if is_halving else given
     seed = seeds[0] if seeds else "1"
     os.makedirs(folder, exist_ok=True)
     for place in range(int(count)):
         draws = Draws(f"{word} {seed} {place}")
-        if is_pulses:
-            plan = drawn_pulses(draws, GROUPS[place % len(GROUPS)], word)
+        if is_halving:
+            plan = drawn_halving(draws, GROUPS[place % len(GROUPS)], word)
         else:
             plan = drawn_plan(draws, shape_at(place), word)
         text = drawn_input(draws, word, plan)

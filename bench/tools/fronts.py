@@ -5,7 +5,7 @@ It goes forward over exact pairs of nodes and faults. From each pair that some l
 rising order of nodes, it tries every level that may stand on it: every number of blocks, of faults
 and of spare nodes. Least bounds over "at most so many nodes" and "at least so many faults" are
 taken only at the end. `choose` goes the other way: it never looks at exact pairs, and at no spare
-nodes but the fewest. Of the front of both constructions it compares all those pairs and every pulse
+nodes but the fewest. Of the front of both constructions it compares all those pairs and every halving
 plan of F faults or more.
 
   fronts.py rows [MOST]       a line `F N T` for each line of the front of each F from 0 to 40
@@ -17,10 +17,10 @@ plan of F faults or more.
   fronts.py numbers < PLAN    the table that `plan` answers to a plan text of version 2
   fronts.py table BINARY [F]  the table of boosting plans of docs/CHOOSE.md for 1 to F faults (7),
                               from what the built `choose boosting` writes at modulus 10
-  fronts.py pulses BINARY     the table of both constructions there, from what the built `choose`
+  fronts.py halving BINARY     the table of both constructions there, from what the built `choose`
                               writes at modulus 10
   fronts.py within BINARY     tests that the built `choose within N T 10` tolerates the most faults,
-                              at each bound of a pulse plan and just below it, for some N
+                              at each bound of a halving plan and just below it, for some N
   fronts.py none BINARY       tests what the built `choose` says on standard error if there is no
                               plan, for some N and each F
   fronts.py times BINARY      how long the built `choose boosting` takes, for the five slowest F from
@@ -33,7 +33,7 @@ import subprocess
 import sys
 import time
 
-import pulse_numbers
+import halving_numbers
 
 LARGEST = 1 << 40
 
@@ -136,16 +136,16 @@ def check(rows, faults, modulus, text):
 
 def front_of_both(rows, faults, most):
     """The pairs of nodes and bound of both constructions that no other pair is at most in both, each
-    with whether a pulse plan alone has it."""
+    with whether a halving plan alone has it."""
     pairs = {(n, bound): False for n, row in enumerate(rows)
              for f, bound in row.items() if f >= faults}
     for f in range(faults, 86):
         for n in range(3 * f + 1, most + 1) if f else [1]:
-            pairs.setdefault((n, pulse_numbers.BOUNDS[f]), True)
+            pairs.setdefault((n, halving_numbers.BOUNDS[f]), True)
     found = []
-    for (n, bound), pulses in sorted(pairs.items()):
+    for (n, bound), halving in sorted(pairs.items()):
         if n <= most and (not found or bound < found[-1][1]):
-            found.append((n, bound, pulses))
+            found.append((n, bound, halving))
     return found
 
 
@@ -157,15 +157,15 @@ def check_both(rows, faults, modulus, most, text):
         assert lines == ['none\n'], lines
     else:
         assert len(lines) == len(want), (faults, modulus, lines, want)
-        for line, (nodes, bound, pulses) in zip(lines, want):
-            if pulses:
-                words = line.split(' pulses ')[1].split(';')[1].split(' ')
+        for line, (nodes, bound, halving) in zip(lines, want):
+            if halving:
+                words = line.split(' halving ')[1].split(';')[1].split(' ')
                 n, f, c = map(int, words[1:])
                 assert (n, c) == (nodes, modulus) and f >= faults, (faults, modulus, line)
-                assert pulse_numbers.BOUNDS[f] == bound and 3 * f < n <= most, (faults, line)
-                size, levels = pulse_numbers.bytes_of(n, f, c), pulse_numbers.HEIGHTS[f]
+                assert halving_numbers.BOUNDS[f] == bound and 3 * f < n <= most, (faults, line)
+                size, levels = halving_numbers.bytes_of(n, f, c), halving_numbers.HEIGHTS[f]
                 assert line == (f'nodes {n} bound {bound} bytes {size} levels {levels} '
-                                f'pulses 1;group {n} {f} {c};end\n'), line
+                                f'halving 1;group {n} {f} {c};end\n'), line
             else:
                 check({nodes: rows[nodes]}, faults, modulus, line)
     return len(want)
@@ -196,7 +196,7 @@ def print_table(binary, most_faults):
             print(f'| {faults} | `{plan}` | {nodes} | {bound:,} | {size} | {took} | {run} |')
 
 
-def print_pulses(binary):
+def print_halving(binary):
     print('| F | plan | nodes N | bound T | bytes | T at 1 ms | boosting, as few nodes | least T |')
     print('|---|---|---|---|---|---|---|---|')
     for faults in (1, 2, 3, 4, 5, 6, 7, 10, 20, 39, 85):
@@ -218,10 +218,10 @@ SOME_NODES = (1, 2, 3, 4, 6, 7, 9, 10, 12, 13, 14, 20, 36, 100, 255, 256)
 
 
 def pairs_of(rows):
-    """Faults, nodes and least bound of plans: of boosting, of pulses, and of both."""
+    """Faults, nodes and least bound of plans: of boosting, of halving, and of both."""
     boosting = [(f, n, bound) for n, row in enumerate(rows) for f, bound in row.items()]
-    pulses = [(f, 3 * f + 1, pulse_numbers.BOUNDS[f]) for f in range(86)]
-    return boosting, pulses, boosting + pulses
+    halving = [(f, 3 * f + 1, halving_numbers.BOUNDS[f]) for f in range(86)]
+    return boosting, halving, boosting + halving
 
 
 def told(binary, *words):
@@ -232,7 +232,7 @@ def told(binary, *words):
 def check_within(binary):
     """`within` writes the line of the front of the most faults that fit."""
     pairs, tried = pairs_of(least_bounds(256))[2], 0
-    bounds = sorted({b - less for b in pulse_numbers.BOUNDS[:86] for less in (0, 1) if b >= less})
+    bounds = sorted({b - less for b in halving_numbers.BOUNDS[:86] for less in (0, 1) if b >= less})
     for nodes in SOME_NODES:
         for bound in [*bounds, 10**15 - 1]:
             most = max(f for f, n, t in pairs if n <= nodes and t <= bound)
@@ -255,7 +255,8 @@ def check_none(binary):
                     assert found[0] != 'none\n' and found[1] == '', (words, faults, nodes, found)
                     continue
                 need = (f'takes MOST_NODES of at least {fewest}' if fewest else
-                        'is more than any boosting plan of at most 256 nodes tolerates')
+                        'is more than any boosting plan of at most 256 nodes, 16 blocks a level '
+                        'and a modulus of 2^40 tolerates')
                 line = (f'none: FAULTS {faults} {need}; MOST_NODES {nodes} allows FAULTS of at most '
                         f'{most}\n')
                 assert found == ('none\n', line), (words, faults, nodes, found)
@@ -306,8 +307,8 @@ def main(words):
         print('\n'.join(table_of(sys.stdin.read().rstrip('\n').split('\n'))))
     elif words[:1] == ['table'] and 2 <= len(words) <= 3:
         print_table(words[1], int(words[2]) if len(words) > 2 else 7)
-    elif words[:1] == ['pulses'] and len(words) == 2:
-        print_pulses(words[1])
+    elif words[:1] == ['halving'] and len(words) == 2:
+        print_halving(words[1])
     elif words[:1] == ['within'] and len(words) == 2:
         check_within(words[1])
     elif words[:1] == ['none'] and len(words) == 2:

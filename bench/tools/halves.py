@@ -1,8 +1,8 @@
 #!/usr/bin/env python3
-"""Draws the pulses of docs/PULSES.md, and writes their numbers.
+"""Draws the halving of docs/HALVING.md, and writes their numbers.
 
-    python3 bench/tools/halves.py tree 4 > docs/pictures/pulses_thirteen.svg     the halves, for 4 faults
-    python3 bench/tools/halves.py run > docs/pictures/pulses_four.svg            a run of four nodes
+    python3 bench/tools/halves.py tree 4 > docs/pictures/halving_thirteen.svg     the halves, for 4 faults
+    python3 bench/tools/halves.py run > docs/pictures/halving_four.svg            a run of four nodes
     python3 bench/tools/halves.py numbers                               the numbers of the page
 
 The run is played from the rules of the page, with a liar that is said at its head. Written from
@@ -150,7 +150,7 @@ REMARKS = [
     "Fires: a full colour where a node fires, blue for the left half and orange for the right; then",
     "which instruction of the phases comes, 0 to 5, in the light colour of the half that began them.",
     "Holds: the value of the register, - where it is infinite; green where all three are locked.",
-    "The pulse in 12 is harmed: node 1 fired for the left half in 9, and is busy. The one in 18 is",
+    "The halving in 12 is harmed: node 1 fired for the left half in 9, and is busy. The one in 18 is",
     "not, and all are locked in 18 + R + 1.",
 ]
 
@@ -219,7 +219,7 @@ def run():
     out = head(w, h, "four nodes of which node 0, the left half, lies")
     out += text(8, 18, 13, "Four nodes; node 0 is the left half, and lies. R is 6, and P is 17.")
     colours = {"left": "#5b9bd5", "right": "#ed9b40"}
-    names = ["configuration", "right pulse", *(f"node {v} fires" for v in CORRECT),
+    names = ["configuration", "right halving", *(f"node {v} fires" for v in CORRECT),
              *(f"node {v} holds" for v in CORRECT)]
     for i, name in enumerate(names):
         out += text(8, top + (i + (i > 4)) * size - 8, 12, name)

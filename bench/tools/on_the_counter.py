@@ -4,8 +4,8 @@ counter alone, or with consensus, firing or a log on it, by docs/ON_THE_COUNTER.
 
     python3 bench/tools/on_the_counter.py WORD < INPUT
 
-WORD is run, slots, consensus, fire or log. INPUT is what `counterlab WORD` reads, or of a pulse plan
-`pulselab WORD`, and what is written is what that writes for an accepted input. It is written from
+WORD is run, slots, consensus, fire or log. INPUT is what `counterlab WORD` reads, or of a halving plan
+`halvinglab WORD`, and what is written is what that writes for an accepted input. It is written from
 the documents by the other scripts of this folder, shares no code with the proved programs, and is no
 part of them.
 """

@@ -6,7 +6,7 @@
     python3 bench/tools/pictures.py bounds > docs/pictures/bounds.svg       nodes against T, for each F
 
 The last one has the plans of the tables of docs/CHOOSE.md, which are those that `choose` writes:
-of pulses the one for each F, of boosting the front for each F up to 7.
+of halving the one for each F, of boosting the front for each F up to 7.
 """
 
 import math
@@ -73,7 +73,7 @@ LAYERS = [
     ("What you mean by a counter", "do the definitions say it?", "trusted: read them", TRUSTED),
     ("The edges", "arguments, exit codes, output; header and link", "tested", TESTED),
     ("Pictures, and states in words", "draw, states", "proved in part, tested", TESTED),
-    ("What is answered", "counterlab, pulselab, choose, trace, sweep, library", "proved", PROVED),
+    ("What is answered", "counterlab, halvinglab, choose, trace, sweep, library", "proved", PROVED),
     ("Why it counts", "every accepted plan, any start, any lies", "proved", PROVED),
     ("Rattle", "its logic, compilers, library and crates", "trusted", TRUSTED),
     ("Below", "C library, system, machine", "trusted", TRUSTED),
@@ -140,10 +140,10 @@ def scales():
 
 def bounds():
     out = head(AXIS + WIDTH + 150, TALL + 80, "nodes against T, of both constructions") + scales()
-    pulses = rows("pulses 1;group")
-    out += path(pulses, LINE)
-    for plan in pulses:
-        out += dot(plan, LINE, "pulses")
+    halving = rows("halving 1;group")
+    out += path(halving, LINE)
+    for plan in halving:
+        out += dot(plan, LINE, "halving")
         x, y = at(*plan[1:])
         out += text(x, y + 18, 10, f"F {plan[0]}", MIDDLE)
     boosting = rows("plan 2;base")
@@ -158,7 +158,7 @@ def bounds():
         out += f'<circle cx="{x + 5}" cy="{y - 4}" r="4" fill="{colour}"/>\n'
         out += text(x + 16, y, 12, f"F {faults}")
     y += 28
-    out += text(x, y, 12, "pulses: black,") + text(x, y + 16, 12, "a plan for each F")
+    out += text(x, y, 12, "halving: black,") + text(x, y + 16, 12, "a plan for each F")
     return out + "</svg>\n"
 
 

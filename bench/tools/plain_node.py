@@ -13,7 +13,7 @@ import random
 import subprocess
 import sys
 
-from pulse_counter import plan_of
+from halving_counter import plan_of
 
 
 def cell_of(data):

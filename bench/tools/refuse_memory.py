@@ -2,12 +2,12 @@
 """Refuses each allocation of each word in turn, and looks at what becomes of it.
 
     python3 bench/tools/refuse_memory.py [--most N] [NAME.WORDS ..]
-    python3 bench/tools/refuse_memory.py [--most N] --pulses
+    python3 bench/tools/refuse_memory.py [--most N] --halving
 
 A row is an input with its answer, NAME.txt and NAME.WORDS.out in crates/try_faults/data/short;
 without names all rows are taken. The program `try_faults` gives a row to the workbench over a
-source and a sink that never fail, after so many allocations of its own. With `--pulses` the
-program is `try_random_pulses`, and its one row a call of a node of a pulse plan. The program is run
+source and a sink that never fail, after so many allocations of its own. With `--halving` the
+program is `try_random_halving`, and its one row a call of a node of a halving plan. The program is run
 by `rt try --fail-alloc N --cases`, which refuses its Nth allocation and needs no proof: once for
 each of 0 to N - 1 allocations before, so that each allocation of the row is refused in one run, if
 it has fewer than about N - 10.
@@ -26,9 +26,9 @@ import tempfile
 
 TOP = pathlib.Path(__file__).resolve().parents[2]
 CRATE = TOP / "crates" / "try_faults"
-PULSES = TOP / "crates" / "try_random_pulses"
+HALVING = TOP / "crates" / "try_random_halving"
 ROWS = CRATE / "data" / "short"
-PULSE_ROW = "one_packet.pulselab"
+HALVING_ROW = "one_packet.halvinglab"
 REFUSED = "10 0"
 
 
@@ -36,7 +36,7 @@ def put_case(folder, row, spent):
     """Puts a run of a row after so many allocations into a folder."""
     case = folder / f"{row}.{spent}"
     arguments = ["spend", str(spent)]
-    if row == PULSE_ROW:
+    if row == HALVING_ROW:
         case.write_bytes(b"")
     else:
         name, words = row.split(".")
@@ -82,13 +82,13 @@ def report(row, plain, refused):
 def main():
     parser = argparse.ArgumentParser(description=__doc__.splitlines()[0])
     parser.add_argument("--most", type=int, default=60)
-    parser.add_argument("--pulses", action="store_true")
+    parser.add_argument("--halving", action="store_true")
     parser.add_argument("rows", nargs="*")
     given = parser.parse_args()
     rows = given.rows or sorted(out.name.removesuffix(".out") for out in ROWS.glob("*.out"))
     crate = CRATE
-    if given.pulses:
-        crate, rows = PULSES, [PULSE_ROW]
+    if given.halving:
+        crate, rows = HALVING, [HALVING_ROW]
     plain, _ = answers(crate, rows, [0], [])
     counts = range(given.most - 1, -1, -1)
     refused, text = answers(crate, rows, counts, ["--fail-alloc", str(given.most)])

@@ -7,7 +7,7 @@ accepted ones.
 import struct
 
 from counter import State
-from pulse_counter import plan_of
+from halving_counter import plan_of
 
 
 def lines_of(text):

@@ -3,7 +3,7 @@
 
     python3 bench/tools/statuses.py [PROGRAM ..]
 
-PROGRAM is the path of a built `counterlab`, `pulselab`, `attack`, `choose`, `draw`, `states`,
+PROGRAM is the path of a built `counterlab`, `halvinglab`, `attack`, `choose`, `draw`, `states`,
 `sweep` or `trace`; if none is named these are crates/NAME/out/NAME, as `rt ci` and `rt run` leave
 them. One that is not there is told in a line, and not tried. It is what the contracts of these programs leave
 to `main`: that all arguments are the words, that standard input, output and error are the source
@@ -36,9 +36,9 @@ DRAWN = EXAMPLES / "pictures"
 KINDS = ["noise", "frozen", "split", "king", "shadow", "half"]
 PLANS = {
     "counterlab": b"plan 2\nbase 576\nlevel 3 1 10 spare 1\nend\n",
-    "pulselab": b"pulses 1\ngroup 7 2 10\nend\n",
+    "halvinglab": b"halving 1\ngroup 7 2 10\nend\n",
 }
-NAMES = ["counterlab", "pulselab", "attack", "choose", "draw", "states", "sweep", "trace"]
+NAMES = ["counterlab", "halvinglab", "attack", "choose", "draw", "states", "sweep", "trace"]
 # How many bytes an input of `run` may have.
 LIMIT = 2**20
 TOO_LONG = b"#\n" * (LIMIT // 2) + b"#"
@@ -121,20 +121,20 @@ def rows_of(text):
     return [line for line in text.split(b"\n") if line.startswith(b"row ")]
 
 
-FOUR_PULSES = b"pulses 1\ngroup 4 1 10\nend\n"
-NODE_OF_FOUR = FOUR_PULSES + b"node 1\nid 1\nstate 000000\nend\n"
+FOUR_HALVING = b"halving 1\ngroup 4 1 10\nend\n"
+NODE_OF_FOUR = FOUR_HALVING + b"node 1\nid 1\nstate 000000\nend\n"
 ZERO_CELL, CELL_BEHIND_ZEROS = b"\x00\x03\x00\x00\x00", b"\x00\x03\x22\x20\xd0"
 
 
-SLOTS_OF_FOUR = FOUR_PULSES + b"slots 1\nslot 1 8 9\nend\n"
+SLOTS_OF_FOUR = FOUR_HALVING + b"slots 1\nslot 1 8 9\nend\n"
 HELD_BY_ONE = (
-    b"pulses 1\ngroup 1 0 3\nend\nslots 1\nslot 0 1 2\nend\n"
+    b"halving 1\ngroup 1 0 3\nend\nslots 1\nslot 0 1 2\nend\n"
     b"script 1\nfaulty\nstart zero\nrounds 4\nshow 1 4\nend\n"
 )
 HOLDS_OF_ONE = b"bound 0\nhold 1 1\nhold 2 1\nhold 3 .\nhold 4 1\nlocked 0\n"
 # one node that counts modulo 4 or 3, with a layer, and what it decides, fires or logs
 SCRIPT_OF_ONE = b"script 1\nfaulty\nstart zero\nrounds 8\nshow 0 8\nend\n"
-ONE_BY_THREE, ONE_BY_FOUR = (b"pulses 1\ngroup 1 0 %d\nend\n" % count for count in (3, 4))
+ONE_BY_THREE, ONE_BY_FOUR = (b"halving 1\ngroup 1 0 %d\nend\n" % count for count in (3, 4))
 AGREE_OF_ONE = b"agree 1\nvalues 5\ninputs 4\nend\n"
 FIRE_OF_ONE = b"fire 1\nrequest 0 2 2\nend\n"
 LOG_OF_ONE = b"log 1\nvalues 9\nkeep 1\ncommands 0 7\nend\n"
@@ -148,20 +148,20 @@ LAYERS_OF_ONE = {
             b"log 1\nvalues 9\nkeep 0\n", b"refused log line 6 rule range\n"),
 }
 TABLE_OF_ONE = (
-    b"table pulses 1\nplan nodes 1 faults 0 modulus 10\nbound 0 levels 0 bits 4 bytes 1\n"
-    b"group 0 nodes 1 faults 0 modulus 10\nend\n"
+    b"table halving 1\nplan nodes 1 faults 0 modulus 10\nbound 0 levels 0 bits 4 bytes 1\n"
+    b"group 0 nodes 1 faults 0 modulus 10\nnode 0 bytes 1 output 0 4\nend\n"
 )
 
 
 def layer_cases(word):
-    """Those of a word of `pulselab` that plays a script with a layer."""
+    """Those of a word of `halvinglab` that plays a script with a layer."""
     plan, part, answer, wrong, refusal = LAYERS_OF_ONE[word]
     lines = (plan + part).count(b"\n")
     late_liar = b"refused script line %d rule node\n" % (lines + 2)
     no_slot = plan.replace(plan.split()[-2], b"5") + part
     return [
         (0, [word], plan + part + SCRIPT_OF_ONE, answer, b""),
-        (1, [word], b"pulses 1\ngroup 3 1 10\nend\n", b"refused pulses line 2 premise quorum\n", b""),
+        (1, [word], b"halving 1\ngroup 3 1 10\nend\n", b"refused halving line 2 premise quorum\n", b""),
         (3, [word], plan + wrong, refusal, b""),
         (3, [word], no_slot, refusal[: refusal.index(b"line")] + b"line 4 rule slot\n", b""),
         (3, [word], plan + part + b"script 1\nfaulty 1\n", late_liar, b""),
@@ -169,24 +169,24 @@ def layer_cases(word):
     ]
 
 
-def pulselab_cases():
-    refused = b"refused pulses line 2 premise quorum\n"
-    too_few = b"pulses 1\ngroup 3 1 10\nend\n"
+def halvinglab_cases():
+    refused = b"refused halving line 2 premise quorum\n"
+    too_few = b"halving 1\ngroup 3 1 10\nend\n"
     two_liars = b"refused script line 5 rule faults\n"
     late_liars = b"refused script line 8 rule faults\n"
-    no_such = FOUR_PULSES + b"node 1\nid 4\n"
-    beyond = FOUR_PULSES + b"slots 1\nslot 1 8 10\nend\n"
+    no_such = FOUR_HALVING + b"node 1\nid 4\n"
+    beyond = FOUR_HALVING + b"slots 1\nslot 1 8 10\nend\n"
     no_range = b"refused slots line 5 rule range\n"
     cut = b"the input ends in packet 0, in the cell of node 1"
     return [
-        own_run("pulselab"),
+        own_run("halvinglab"),
         (0, ["node"], NODE_OF_FOUR + 4 * ZERO_CELL, ZERO_CELL + CELL_BEHIND_ZEROS, b""),
         (1, ["plan"], too_few, refused, b""),
-        (0, ["plan"], b"pulses 1\ngroup 1 0 10\nend\n", TABLE_OF_ONE, b""),
+        (0, ["plan"], b"halving 1\ngroup 1 0 10\nend\n", TABLE_OF_ONE, b""),
         (1, ["run"], too_few, refused, b""),
         (1, ["node"], too_few, refused, b""),
-        told(2, [], b"", b"usage: pulselab "),
-        (3, ["run"], FOUR_PULSES + b"script 1\nfaulty 0 1\n", two_liars, b""),
+        told(2, [], b"", b"usage: halvinglab "),
+        (3, ["run"], FOUR_HALVING + b"script 1\nfaulty 0 1\n", two_liars, b""),
         (0, ["slots"], HELD_BY_ONE, HOLDS_OF_ONE, b""),
         (1, ["slots"], too_few, refused, b""),
         (3, ["slots"], beyond, no_range, b""),
@@ -201,21 +201,24 @@ def pulselab_cases():
     ]
 
 
-FRONT_OF_BOTH = b"nodes 10 bound 124 bytes 7 levels 2 pulses 1;group 10 3 1000;end\n"
+FRONT_OF_BOTH = b"nodes 10 bound 124 bytes 7 levels 2 halving 1;group 10 3 1000;end\n"
 NONE_OF_BOTH = (
     b"none: FAULTS 3 takes MOST_NODES of at least 10; MOST_NODES 9 allows FAULTS of at most 2\n"
 )
 NONE_BOOSTING = (
     b"none: FAULTS 5 takes MOST_NODES of at least 20; MOST_NODES 14 allows FAULTS of at most 4\n"
 )
-NONE_AT_ALL = b"none: FAULTS 40 is more than any boosting plan of at most 256 nodes tolerates; "
+NONE_AT_ALL = (
+    b"none: FAULTS 40 is more than any boosting plan of at most 256 nodes, 16 blocks a level "
+    b"and a modulus of 2^40 tolerates; "
+)
 
 
 def choose_cases():
     return [
         own_run("choose"),
         (0, ["3", "1000", "14"], b"", FRONT_OF_BOTH, b""),
-        (0, ["3", "1000", "14", "plan"], b"", b"pulses 1\ngroup 10 3 1000\nend\n", b""),
+        (0, ["3", "1000", "14", "plan"], b"", b"halving 1\ngroup 10 3 1000\nend\n", b""),
         (0, ["3", "1000", "9"], b"", b"none\n", NONE_OF_BOTH),
         (0, ["boosting", "5", "10", "14"], b"", b"none\n", NONE_BOOSTING),
         (0, ["boosting", "40", "10"], b"", b"none\n", NONE_AT_ALL),
@@ -238,9 +241,9 @@ def script_cases(name, words):
     ]
 
 
-# A pulse plan and a script of it, of which the rows are those of bench/tools/pulse_traces.py.
-TRACED_PULSES = (
-    FOUR_PULSES + b"script 1\nfaulty 1\nstart zero\nstart node 0 153000\nstart node 2 a60000\n"
+# A halving plan and a script of it, of which the rows are those of bench/tools/halving_traces.py.
+TRACED_HALVING = (
+    FOUR_HALVING + b"script 1\nfaulty 1\nstart zero\nstart node 0 153000\nstart node 2 a60000\n"
     b"start node 3 a60000\nlie 0 41 1 to all hex 34c000\nrounds 41\nshow 30 41\nend\n"
 )
 TRACE_OF_NODE_2 = (
@@ -254,8 +257,8 @@ COUNT_TO_1 = b"plan 1\nbase 5\nend\nscript 1\nfaulty\nstart zero\nrounds 1\nshow
 
 def trace_cases():
     liar = example("runs/two_faced_liar")
-    no_such = b"pulses 2\ngroup 1 0 3\nend\n"
-    two_alone = b"pulses 1\ngroup 2 0 3\nend\n"
+    no_such = b"halving 2\ngroup 1 0 3\nend\n"
+    two_alone = b"halving 1\ngroup 2 0 3\nend\n"
     one_liar = ONE_BY_THREE + b"script 1\nfaulty 0\n"
     return [
         *script_cases("trace", ["0", "1"]),
@@ -263,9 +266,9 @@ def trace_cases():
         told(2, ["0", "1", "4"], liar, b"refused words: the plan has no such node"),
         (0, ["0", "0"], COUNT_TO_1, b"at 0 node 0 number 0 output 0\n", b""),
         (0, ["4", "4"], COUNT_TO_4, b"at 4 node 0 number 1 output 1\n", b""),
-        (0, ["1", "1", "2"], b"#\n" + TRACED_PULSES, TRACE_OF_NODE_2, b""),
+        (0, ["1", "1", "2"], b"#\n" + TRACED_HALVING, TRACE_OF_NODE_2, b""),
         told(1, ["0", "0"], no_such, b"refused plan line 1 premise form\n"),
-        told(1, ["0", "0"], two_alone, b"refused pulses line 2 premise single\n"),
+        told(1, ["0", "0"], two_alone, b"refused halving line 2 premise single\n"),
         told(3, ["0", "2"], one_liar, b"refused script line 5 rule faults\n"),
     ]
 
@@ -273,15 +276,15 @@ def trace_cases():
 def sweep_cases():
     quiet = example("runs/two_faced_liar")
     data = CRATES / "sweep" / "data"
-    pulses = (data / "pulses.txt").read_bytes()
-    plan = b"pulses 1\ngroup 4 1 10\nend\n"
+    halving = (data / "halving.txt").read_bytes()
+    plan = b"halving 1\ngroup 4 1 10\nend\n"
     return [
         *script_cases("sweep", ["0", "3"]),
         told(3, ["0", "3"], quiet, b"refused script: "),
-        (0, ["0", "40"], pulses, (data / "pulses.out").read_bytes(), b""),
-        told(1, ["0", "3"], pulses.replace(b"group 4 1 10", b"group 3 1 10"),
-             b"refused pulses line 4 premise "),
-        told(3, ["0", "3"], pulses.replace(b"faulty 1\n", b"faulty 4\n"),
+        (0, ["0", "40"], halving, (data / "halving.out").read_bytes(), b""),
+        told(1, ["0", "3"], halving.replace(b"group 4 1 10", b"group 3 1 10"),
+             b"refused halving line 4 premise "),
+        told(3, ["0", "3"], halving.replace(b"faulty 1\n", b"faulty 4\n"),
              b"refused script line 7 rule "),
         told(3, ["0", "3"], plan + b"script 1\nfaulty\nstart zero\nrounds 5\nshow 0 5\nend\n",
              b"refused script: "),
@@ -293,7 +296,7 @@ def attack_cases():
     return [
         (*own_run("attack")[:4], b"locked "),
         told(1, search, example("refused_plans/blocks"), b"refused plan line "),
-        told(1, search, b"pulses 1\ngroup 3 1 10\nend\n", b"refused pulses line 2 premise quorum"),
+        told(1, search, b"halving 1\ngroup 3 1 10\nend\n", b"refused halving line 2 premise quorum"),
         told(2, [], b"", b"usage: attack "),
         told(2, ["1", "0"], b"", b"usage: attack "),
         told(2, ["1", "3", "nose"], b"", b"usage: attack "),
@@ -352,7 +355,7 @@ def states_cases():
 
 CASES = {
     "counterlab": counterlab_cases,
-    "pulselab": pulselab_cases,
+    "halvinglab": halvinglab_cases,
     "attack": attack_cases,
     "choose": choose_cases,
     "draw": draw_cases,

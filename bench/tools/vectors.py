@@ -4,9 +4,9 @@
     python3 vectors.py packets V [FROM] < CERTIFICATE      what `counterlab node` is to read
     python3 vectors.py cells V [FROM] < CERTIFICATE        and what it is to write
     python3 vectors.py draw                                the vectors of crates/try_examples/data/
-    python3 vectors.py draw pulses                         and those of pulse plans
+    python3 vectors.py draw halving                         and those of halving plans
     python3 vectors.py check < VECTORS                     whether each step is that of counter.py,
-                                                           or of pulse_counter.py
+                                                           or of halving_counter.py
     python3 vectors.py cases FOLDER < VECTORS              of each vector such an input and answer
 
 CERTIFICATE is what `counterlab record` writes. The states after its starts are counted here, by
@@ -19,8 +19,8 @@ import os
 import random
 import sys
 
-import pulse_counter
-import pulse_vectors
+import halving_counter
+import halving_vectors
 from counter import Plan, nodes_of, shown
 from scripts import lines_of
 
@@ -152,10 +152,10 @@ def read_vectors(lines):
     front, vectors = [], []
     for line in lines[1:]:
         key, *words = line.split()
-        if key in ("plan", "base", "level", "pulses", "group", "end"):
-            front = [line] if key in ("plan", "pulses") else front + [line]
+        if key in ("plan", "base", "level", "halving", "group", "end"):
+            front = [line] if key in ("plan", "halving") else front + [line]
             if key == "end":
-                plan = pulse_counter.plan_of(front)
+                plan = halving_counter.plan_of(front)
         elif key == "node":
             vectors.append(Vector(plan, int(words[0]), data_of(words[2]), []))
         elif key == "cells":
@@ -285,13 +285,13 @@ def drawn_vectors():
             yield drawn_vector(draws, plan, v, drawn_states(draws, plan))
 
 
-def drawn_pulse_vectors():
+def drawn_halving_vectors():
     draws = Draws(2)
-    for count, text in pulse_vectors.PLANS:
-        plan = pulse_counter.Plan(text.split(";"))
+    for count, text in halving_vectors.PLANS:
+        plan = halving_counter.Plan(text.split(";"))
         for _ in range(count):
             v = draws.below(plan.nodes)
-            yield drawn_vector(draws, plan, v, pulse_vectors.drawn_states(draws, plan))
+            yield drawn_vector(draws, plan, v, halving_vectors.drawn_states(draws, plan))
 
 
 def check(vectors):
@@ -330,7 +330,7 @@ def of_certificate(word, words):
 def main():
     word, *words = sys.argv[1:]
     if word == "draw":
-        write_vectors(drawn_pulse_vectors() if words == ["pulses"] else drawn_vectors())
+        write_vectors(drawn_halving_vectors() if words == ["halving"] else drawn_vectors())
     elif word == "check":
         sys.exit(check(read_vectors(lines_of(sys.stdin.read()))))
     elif word == "cases":

@@ -1,10 +1,10 @@
-/* Four nodes of a pulse plan, of which the last one lies: what the others show, round by round. */
+/* Four nodes of a halving plan, of which the last one lies: what the others show, round by round. */
 #include "counterlab.h"
 #include <stdio.h>
 #include <string.h>
 
 #define PLAN (const uint8_t *)text, strlen(text)
-static const char *text = "pulses 1\ngroup 4 1 10\nend\n";
+static const char *text = "halving 1\ngroup 4 1 10\nend\n";
 
 int main(void) {
     uint8_t states[4][COUNTERLAB_MOST_BYTES] = {

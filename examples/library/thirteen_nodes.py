@@ -1,4 +1,4 @@
-"""Thirteen nodes of a pulse plan that step by the library, of which four lie.
+"""Thirteen nodes of a halving plan that step by the library, of which four lie.
 
     COUNTERLAB_SO=libcounterlab_c.so python3 thirteen_nodes.py [SEEDS]
 
@@ -13,7 +13,7 @@ import sys
 
 import counterlab
 
-PLAN = b"pulses 1\ngroup 13 4 10\nend\n"
+PLAN = b"halving 1\ngroup 13 4 10\nend\n"
 ROUNDS = 300
 
 

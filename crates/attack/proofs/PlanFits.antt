@@ -22,16 +22,16 @@ use Rattle.state_codec.proofs.Plans.{length-moduli_of, all_of_accepted, over_acc
 use Rattle.state_codec.proofs.RegisterSteps.{registers_bits-cons, registers_bits_of_none}
 use Rattle.adversary_script.specs.Writable.{FitsLines}
 use Rattle.plan_machine.proofs.Sound as levels
-use Rattle.pulse_plan.proofs.Sound as halves
-use Rattle.pulse_plan.specs.Plans.{PulseNumbers, IsAccepted as IsAcceptedPulses}
-use Rattle.pulse_texts.specs.PulseShapes as pulses
-use Rattle.pulse_texts.proofs.PlanBits.{some_bits_at, few_registers}
-use Rattle.pulse_texts.proofs.Shaped as shaped
+use Rattle.halving_plan.proofs.Sound as halves
+use Rattle.halving_plan.specs.Plans.{HalvingNumbers, IsAccepted as IsAcceptedHalving}
+use Rattle.halving_texts.specs.HalvingShapes as halving
+use Rattle.halving_texts.proofs.PlanBits.{some_bits_at, few_registers}
+use Rattle.halving_texts.proofs.Shaped as shaped
 use Rattle.attack.specs.declared.plans.AnyPlan.{AnyPlan}
 use Rattle.attack.specs.declared.plans.AnyPlan.TheVariants as plan
 use Rattle.attack.specs.FreshLaws.{IsAttacked}
 use Rattle.attack.specs.PlanTexts.{machine_in, shape_in, IsAcceptedPlan}
-use Rattle.attack.proofs.PlanShapes.{boosting_fits, pulses_fit}
+use Rattle.attack.proofs.PlanShapes.{boosting_fits, halving_fit}
 
 -- ---- not many bits
 
@@ -132,16 +132,16 @@ levels_fit own accepted =
           (bits_at own accepted);
     }
 
-halves_fit : (own : PulseNumbers) → IsAcceptedPulses own
-    → IsAttacked (machine_in (plan.Pulses own)) (pulses.shape_of own)
+halves_fit : (own : HalvingNumbers) → IsAcceptedHalving own
+    → IsAttacked (machine_in (plan.Halving own)) (halving.shape_of own)
 halves_fit own accepted = record {
-  shaped = pulses_fit own accepted;
+  shaped = halving_fit own accepted;
   sound = halves.accepted_are_sound own accepted;
-  fits = subst (λ n. FitsLines n (pulses.shape_of own)) (sym (halves.nodes_are own accepted))
-      (shape_fits own.nodes (pulses.shape_of own) (shaped.is_shape own accepted)
+  fits = subst (λ n. FitsLines n (halving.shape_of own)) (sym (halves.nodes_are own accepted))
+      (shape_fits own.nodes (halving.shape_of own) (shaped.is_shape own accepted)
       (few_registers own accepted) (some_bits_at own accepted));
 }
 
 pub plans_fit : (any : AnyPlan) → IsAcceptedPlan any → IsAttacked (machine_in any) (shape_in any)
 plans_fit (plan.Boosting own) accepted = levels_fit own accepted
-plans_fit (plan.Pulses own) accepted = halves_fit own accepted
+plans_fit (plan.Halving own) accepted = halves_fit own accepted

@@ -4,11 +4,11 @@ use Rattle.construction.specs.Plans.{Plan, plan_nodes, plan_depth}
 use Rattle.state_codec.specs.Shapes.{Shape, IsShape, shape_of, shape_nodes, fields_at}
 use Rattle.plan_machine.specs.PlanMachines.{machine_of_plan}
 use Rattle.machine_runner.specs.Laws.{IsShapeOf}
-use Rattle.pulse_plan.specs.Plans.{PulseNumbers, IsAccepted}
-use Rattle.pulse_plan.specs.Laws.{machine_in}
-use Rattle.pulse_plan.proofs.Sound.{nodes_are}
-use Rattle.pulse_texts.specs.PulseShapes as pulses
-use Rattle.pulse_texts.proofs.Shaped as shaped
+use Rattle.halving_plan.specs.Plans.{HalvingNumbers, IsAccepted}
+use Rattle.halving_plan.specs.Laws.{machine_in}
+use Rattle.halving_plan.proofs.Sound.{nodes_are}
+use Rattle.halving_texts.specs.HalvingShapes as halving
+use Rattle.halving_texts.proofs.Shaped as shaped
 
 pub boosting_fits : (plan : Plan) (shape : Shape) → IsShape shape → shape ≡ shape_of plan
     → shape.depth ≡ plan_depth plan → shape_nodes shape ≡ plan_nodes plan
@@ -20,9 +20,9 @@ boosting_fits plan shape sound is depth nodes = record {
   fields = λ v lt. ap (λ (s : Shape). fields_at s v) is;
 }
 
-pub pulses_fit : (plan : PulseNumbers) → IsAccepted plan
-    → IsShapeOf (machine_in plan) (pulses.shape_of plan)
-pulses_fit plan accepted = record {
+pub halving_fit : (plan : HalvingNumbers) → IsAccepted plan
+    → IsShapeOf (machine_in plan) (halving.shape_of plan)
+halving_fit plan accepted = record {
   sound = shaped.is_shape plan accepted;
   nodes = shaped.nodes_are plan accepted ∙ sym (nodes_are plan accepted);
   depth = refl;

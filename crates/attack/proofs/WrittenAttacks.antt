@@ -12,9 +12,9 @@ use Rattle.sync_types.specs.declared.answers.Premise.{Premise}
 use Rattle.construction.specs.Plans.{Plan}
 use Rattle.plan_reader.specs.PlanPart.{whole_plan_of}
 use Rattle.plan_reader.specs.Skipped.{first_unskipped}
-use Rattle.pulse_plan.specs.Plans.{PulseNumbers}
-use Rattle.pulse_texts.specs.declared.premises.LinePremise.{LinePremise}
-use Rattle.pulse_texts.specs.PulsesPart.{whole_pulses_of}
+use Rattle.halving_plan.specs.Plans.{HalvingNumbers}
+use Rattle.halving_texts.specs.declared.premises.LinePremise.{LinePremise}
+use Rattle.halving_texts.specs.HalvingPart.{whole_halving_of}
 use Rattle.program_words.specs.Conduct.{FailsAs}
 use Rattle.program_words.specs.declared.errors.ProgramError.{ProgramError}
 use Rattle.program_words.specs.declared.errors.ProgramError.TheVariants as error
@@ -27,7 +27,7 @@ use Rattle.attack.specs.declared.requests.Numbers.{Numbers}
 use Rattle.attack.specs.Conduct.{Attacks, IsAttackedSome}
 use Rattle.attack.specs.Found.{FailsToFind, best_found}
 use Rattle.attack.specs.PlanInputs.{boosting_answer, boosting_or_refused, is_first, plan_answer}
-use Rattle.attack.specs.PlanInputs.{plan_by, pulses_refused_at}
+use Rattle.attack.specs.PlanInputs.{plan_by, halving_refused_at}
 use Rattle.attack.specs.Requests.{named_kinds}
 
 -- ---- no plan is refused for the reason that no attack is a script
@@ -38,12 +38,12 @@ boosting_other (Ok own) is = cc
 boosting_other (Err at) is = cc
 
 by_test : (text : List ℕ) (at : At LinePremise) (first : Bool)
-    → (if first then boosting_answer text else Err (pulses_refused_at at)) ≡ Err reason.NoScript
+    → (if first then boosting_answer text else Err (halving_refused_at at)) ≡ Err reason.NoScript
     → ⊥
 by_test text at true is = boosting_other (whole_plan_of text) is
 by_test text at false is = cc
 
-plan_other : (first : Option ℕ) (text : List ℕ) (read : Result PulseNumbers (At LinePremise))
+plan_other : (first : Option ℕ) (text : List ℕ) (read : Result HalvingNumbers (At LinePremise))
     → plan_by first text read ≡ Err reason.NoScript → ⊥
 plan_other first text (Ok own) is = cc
 plan_other first text (Err at) is = by_test text at (is_first first at.line) is
@@ -54,9 +54,9 @@ module _ (numbers : Numbers) (words : List (List ℕ)) (input : List ℕ) where
   refused_error : (e : ProgramError AttackReason) (s : SinkState) → FailsAs (plan_answer input) e
       → Attacks numbers words input (Err e) s s
   refused_error (error.Refused (reason.Boosting refusal)) s fails = (fails, refl)
-  refused_error (error.Refused (reason.Pulses refusal)) s fails = (fails, refl)
+  refused_error (error.Refused (reason.Halving refusal)) s fails = (fails, refl)
   refused_error (error.Refused reason.NoScript) s fails =
-      absurd (plan_other (first_unskipped 1 (lines_of input)) input (whole_pulses_of input) fails)
+      absurd (plan_other (first_unskipped 1 (lines_of input)) input (whole_halving_of input) fails)
   refused_error error.NoMemory s fails = refl
   refused_error error.Usage s fails = absurd fails
   refused_error error.ReadFault s fails = absurd fails
@@ -71,7 +71,7 @@ module _ (numbers : Numbers) (words : List (List ℕ)) (input : List ℕ) where
       absurd (true≢false (sym found ∙ ap is_some none.is))
   not_found_error plan error.NoMemory s found none = refl
   not_found_error plan (error.Refused (reason.Boosting refusal)) s found none = absurd none
-  not_found_error plan (error.Refused (reason.Pulses refusal)) s found none = absurd none
+  not_found_error plan (error.Refused (reason.Halving refusal)) s found none = absurd none
   not_found_error plan error.Usage s found none = absurd none
   not_found_error plan error.ReadFault s found none = absurd none
   not_found_error plan error.WriteFault s found none = absurd none

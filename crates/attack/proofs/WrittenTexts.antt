@@ -10,13 +10,13 @@ use Rattle.plan_reader.specs.PlanTexts.{in_version, PlanTextIsRead}
 use Rattle.plan_machine.specs.PlanMachines.{machine_of_plan}
 use Rattle.adversary_script.specs.Scripts.{Script}
 use Rattle.adversary_script.specs.ScriptPart.{script_for}
-use Rattle.pulse_plan.specs.Halvings.{halving_faults}
-use Rattle.pulse_plan.proofs.Numbers.{faults_of_halving}
-use Rattle.pulse_plan.specs.Plans.{PulseNumbers, tree_of, IsAccepted as IsAcceptedPulses}
-use Rattle.pulse_plan.specs.Laws.{machine_in}
-use Rattle.pulse_texts.specs.PulseShapes as pulses
-use Rattle.pulse_texts.proofs.Shaped as shaped
-use Rattle.pulse_texts.specs.PulsesTexts.{PulsesTextIsRead}
+use Rattle.halving_plan.specs.Trees.{tree_faults}
+use Rattle.halving_plan.proofs.Numbers.{faults_of_tree}
+use Rattle.halving_plan.specs.Plans.{HalvingNumbers, tree_of, IsAccepted as IsAcceptedHalving}
+use Rattle.halving_plan.specs.Laws.{machine_in}
+use Rattle.halving_texts.specs.HalvingShapes as halving
+use Rattle.halving_texts.proofs.Shaped as shaped
+use Rattle.halving_texts.specs.HalvingTexts.{HalvingTextIsRead}
 use Rattle.attack.specs.Tried.{script_in}
 use Rattle.attack.specs.declared.plans.AnyPlan.TheVariants as plan
 use Rattle.attack.specs.PlanTexts.{text_of}
@@ -45,28 +45,28 @@ boosting_reads law own accepted text script read =
           ∙ read;
     }
 
-faults_are : (own : PulseNumbers) → halving_faults (tree_of own) ≡ own.faults
-faults_are own = faults_of_halving own.faults _
+faults_are : (own : HalvingNumbers) → tree_faults (tree_of own) ≡ own.faults
+faults_are own = faults_of_tree own.faults _
 
-pulses_read : PulsesTextIsRead → (own : PulseNumbers) → IsAcceptedPulses own → (text : List ℕ)
+halving_read : HalvingTextIsRead → (own : HalvingNumbers) → IsAcceptedHalving own → (text : List ℕ)
     (script : Script)
-    → script_in (machine_in own) (pulses.shape_of own) (1 + 3) text ≡ Ok script
-    → ReadsAs (text_of (plan.Pulses own) ++ text) (plan.Pulses own) script
-pulses_read law own accepted text script read =
+    → script_in (machine_in own) (halving.shape_of own) (1 + 3) text ≡ Ok script
+    → ReadsAs (text_of (plan.Halving own) ++ text) (plan.Halving own) script
+halving_read law own accepted text script read =
     record {
       found = record { value = own; taken = 3; behind = lines_of text };
       is = law own text accepted;
       same = refl;
       behind =
-          ap (λ (n : ℕ). script_for n own.faults (pulses.shape_of own) (1 + 3) (lines_of text))
+          ap (λ (n : ℕ). script_for n own.faults (halving.shape_of own) (1 + 3) (lines_of text))
           (sym (shaped.nodes_are own accepted))
-          ∙ (ap (λ (f : ℕ). script_for (shape_nodes (pulses.shape_of own)) f
-          (pulses.shape_of own) (1 + 3) (lines_of text)) (sym (faults_are own))
+          ∙ (ap (λ (f : ℕ). script_for (shape_nodes (halving.shape_of own)) f
+          (halving.shape_of own) (1 + 3) (lines_of text)) (sym (faults_are own))
           ∙ read);
     }
 
-pub written_is_read : PlanTextIsRead → PulsesTextIsRead → WrittenIsRead
+pub written_is_read : PlanTextIsRead → HalvingTextIsRead → WrittenIsRead
 written_is_read levels halves (plan.Boosting own) accepted text script read =
     boosting_reads levels own accepted text script read
-written_is_read levels halves (plan.Pulses own) accepted text script read =
-    pulses_read halves own accepted text script read
+written_is_read levels halves (plan.Halving own) accepted text script read =
+    halving_read halves own accepted text script read

@@ -26,7 +26,7 @@ four = plan.Boosting (record {
 })
 
 abbrev pub seven : AnyPlan
-seven = plan.Pulses (record { nodes = 7; faults = 2; modulus = 10 })
+seven = plan.Halving (record { nodes = 7; faults = 2; modulus = 10 })
 
 -- ---- texts
 
@@ -52,12 +52,12 @@ IsFirstTry plan seed kind text = IsSpelled plan (first_try plan seed kind) text
 pub record KindsAreSpelled : Type 0 where
   pub noise : IsFirstTry seven 1 kind.Noise
       (around_zeros (codes "script 1\nfaulty 1 5\nseed 5e41ab087439611e")
-      (codes "\nstart noise\nlie 0 77 1 to 0 6 noise\nlie 0 77 5 to 0 6 noise\n"
-      ++ codes "rounds 78\nshow 78 78\nend\n"))
+      (codes "\nstart noise\nlie 0 29 1 to 0 6 noise\nlie 0 29 5 to 0 6 noise\n"
+      ++ codes "rounds 30\nshow 30 30\nend\n"))
   pub half : IsFirstTry seven 1 kind.Half
       (around_zeros (codes "script 1\nfaulty 5 6\nseed 5e41ab087439611e")
-      (codes "\nstart noise\nlie 0 77 5 to 0 6 noise\nlie 0 77 6 to 0 6 noise\n"
-      ++ codes "rounds 78\nshow 78 78\nend\n"))
+      (codes "\nstart noise\nlie 0 29 5 to 0 6 noise\nlie 0 29 6 to 0 6 noise\n"
+      ++ codes "rounds 30\nshow 30 30\nend\n"))
   pub frozen : IsFirstTry four 3 kind.Frozen
       (around_zeros (codes "script 1\nfaulty 3\nseed bccdfd9c96a18897")
       (codes "\nstart noise\nlie 0 575 3 to 0 3 hex 98\nrounds 576\nshow 576 576\nend\n"))

@@ -7,8 +7,8 @@ use Rattle.plan_reader.specs.PlanPart.{plan_of}
 use Rattle.state_codec.specs.Shapes as boosting
 use Rattle.adversary_script.specs.Scripts.{Script}
 use Rattle.adversary_script.specs.ScriptPart.{script_for}
-use Rattle.pulse_texts.specs.PulseShapes as pulses
-use Rattle.pulse_texts.specs.PulsesPart.{pulses_of}
+use Rattle.halving_texts.specs.HalvingShapes as halving
+use Rattle.halving_texts.specs.HalvingPart.{halving_of}
 use Rattle.attack.specs.Tried.{script_in}
 use Rattle.attack.specs.declared.plans.AnyPlan.{AnyPlan}
 use Rattle.attack.specs.declared.plans.AnyPlan.TheVariants as plan
@@ -29,8 +29,8 @@ abbrev pub ReadsAs : (text : List ℕ) → AnyPlan → Script → Type 0
 ReadsAs text (plan.Boosting own) script =
     IsReadAs (plan_of text)
     (script_for (plan_nodes own) (plan_faults own) (boosting.shape_of own)) own script
-ReadsAs text (plan.Pulses own) script =
-    IsReadAs (pulses_of text) (script_for own.nodes own.faults (pulses.shape_of own)) own script
+ReadsAs text (plan.Halving own) script =
+    IsReadAs (halving_of text) (script_for own.nodes own.faults (halving.shape_of own)) own script
 
 -- The text of an accepted plan, with that of a script for its machine after it, is read as these.
 abbrev pub WrittenIsRead : Type 0

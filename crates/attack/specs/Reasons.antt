@@ -3,7 +3,7 @@ use Rattle.std.specs.Prelude.{ℕ, List, [], ◌∷◌, codes, decimal}
 use Rattle.std.specs.List.{concat}
 use Rattle.sync_types.specs.declared.answers.Premise.{Premise}
 use Rattle.sync_types.specs.declared.answers.Premise.TheVariants as premise
-use Rattle.pulse_texts.specs.PulseWords as pulses
+use Rattle.halving_texts.specs.HalvingWords as halving
 use Rattle.attack.specs.declared.reasons.AttackReason.{AttackReason}
 use Rattle.attack.specs.declared.reasons.AttackReason.TheVariants as reason
 
@@ -29,12 +29,12 @@ plan_line line failed = concat (
 -- a plan that is refused has the line that the word `run` writes
 abbrev pub reason_text : AttackReason → List ℕ
 reason_text (reason.Boosting refusal) = plan_line refusal.line refusal.premise
-reason_text (reason.Pulses refusal) = pulses.refusal_line refusal.line refusal.premise
+reason_text (reason.Halving refusal) = halving.refusal_line refusal.line refusal.premise
 reason_text reason.NoScript = codes "no attack that was tried is a script\n"
 
 -- the code is that of the word `run` for the same cause, and that of a refused script if none was
 -- found
 abbrev pub code_for : AttackReason → ℕ
 code_for (reason.Boosting refusal) = 1
-code_for (reason.Pulses refusal) = 1
+code_for (reason.Halving refusal) = 1
 code_for reason.NoScript = 3

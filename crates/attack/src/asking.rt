@@ -20,9 +20,9 @@ use std::alloc::Global;
 
 /// How the program is used.
 const HELP: &[u8] = b"usage: attack SEED RUNS [KIND ..] < PLAN\n\
-    Reads a plan, or a pulse plan, tries RUNS attacks on it, and writes the\n\
+    Reads a plan, or a halving plan, tries RUNS attacks on it, and writes the\n\
     plan and the attack that locks latest, as a script for it, which\n\
-    counterlab run or pulselab run plays. A line on standard error says\n\
+    counterlab run or halvinglab run plays. A line on standard error says\n\
     which configuration of it is the first locked one, and the bound.\n\
     The attacks are drawn from SEED, and of these kinds, or of all.\n";
 
@@ -52,7 +52,7 @@ pub fn answer<S: Source, K: Sink>(
     ensures unmet { IsErrOf result ProgramError.ReadFault → S.met source.new ≡ S.met source.old }
 
     // What is written is read back, by the grammars of the words `run` of `counterlab` and
-    // `pulselab`: as the plan, and the script of the attack after it.
+    // `halvinglab`: as the plan, and the script of the attack after it.
     ensures read_back { WrittenIsRead }
 
     // A search of at least one try finds an attack on every accepted plan: each attack that is
@@ -76,7 +76,7 @@ pub fn answer<S: Source, K: Sink>(
             Ok(None)
         }
         Asked::Version => {
-            put_all(sink, b"attack 1.0\n")?;
+            put_all(sink, b"attack 2.0\n")?;
             Ok(None)
         }
         Asked::Request(numbers) => {

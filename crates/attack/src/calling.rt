@@ -48,7 +48,7 @@ fn attack_text<K: Sink>(
 /// writes the plan's text and that of the attack which locks latest. The answer is what is said of
 /// the attack.
 ///
-/// The whole source is read first, at most 2^20 bytes. `Boosting` and `Pulses` come exactly if it
+/// The whole source is read first, at most 2^20 bytes. `Boosting` and `Halving` come exactly if it
 /// is no plan; `TooLong` only if the byte after the limit was there. `ReadFault` and `WriteFault`
 /// come only if the source, before its end, or the sink counted a fault, and `NoMemory` if memory
 /// was refused. Nothing was written then, but at `WriteFault` a prefix of the text. `Usage` never

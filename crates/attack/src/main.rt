@@ -1,8 +1,8 @@
 //! Finds a script that keeps a plan from counting for long. `attack SEED RUNS [KIND ..]` reads a
 //! plan of either construction from standard input, tries RUNS attacks on it, of the kinds that are
 //! named or of all, and writes the plan and, after it, the attack whose first configuration that is
-//! locked comes latest, as a script for the plan: `counterlab run` plays it, or `pulselab run` if
-//! it is a pulse plan. What is tried depends on the plan, SEED, RUNS and the kinds alone.
+//! locked comes latest, as a script for the plan: `counterlab run` plays it, or `halvinglab run` if
+//! it is a halving plan. What is tried depends on the plan, SEED, RUNS and the kinds alone.
 //!
 //! After that a line on standard error says which configuration of the attack is the first locked
 //! one, and the plan's bound: `locked L of T`, or `locked none of T`. `--help` and `--version`

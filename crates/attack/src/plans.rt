@@ -6,14 +6,14 @@ ghost use Rattle.machine_runner.specs.Laws.{IsShapeOf};
 ghost use Rattle.attack.specs.Targets.{IsFirstLine};
 ghost use Rattle.attack.specs.PlanTexts.{counter_of, machine_in, shape_in, text_of, first_line_of};
 
-use crate::shapes::{boosting_shape, pulses_shape};
+use crate::shapes::{boosting_shape, halving_shape};
 use edge_io::{Sink, WriteFault};
+use halving_plan::{HalvingMachine, HalvingPlan};
+use halving_texts::write_halving;
 use node_calls::AnyMachine;
 use plan_machine::PlanMachine;
 use plan_numbers::Plan;
 use plan_reader::write_plan;
-use pulse_plan::{PulseMachine, PulsePlan};
-use pulse_texts::write_pulses;
 use state_codec::StateShape;
 use std::alloc::Global;
 use sync_types::NoMemory;
@@ -24,7 +24,7 @@ pub enum AnyPlan {
     /// One of levels over blocks.
     Boosting(Plan),
     /// One of halves.
-    Pulses(PulsePlan),
+    Halving(HalvingPlan),
 }
 
 /// How many lines the text of a plan has beside those of its levels.
@@ -37,7 +37,7 @@ impl AnyPlan {
     {
         match self {
             AnyPlan::Boosting(plan) => Ok(AnyMachine::Boosting(PlanMachine::new(alloc, plan)?)),
-            AnyPlan::Pulses(plan) => Ok(AnyMachine::Pulses(PulseMachine::new(alloc, *plan)?)),
+            AnyPlan::Halving(plan) => Ok(AnyMachine::Halving(HalvingMachine::new(alloc, *plan)?)),
         }
     }
 
@@ -48,7 +48,7 @@ impl AnyPlan {
     {
         match self {
             AnyPlan::Boosting(plan) => boosting_shape(alloc, plan),
-            AnyPlan::Pulses(plan) => pulses_shape(alloc, plan),
+            AnyPlan::Halving(plan) => halving_shape(alloc, plan),
         }
     }
 
@@ -62,7 +62,7 @@ impl AnyPlan {
                 plan.facts();
                 1 + (plan.depth() as u64 + LINES)
             }
-            AnyPlan::Pulses(_) => 1 + LINES,
+            AnyPlan::Halving(_) => 1 + LINES,
         }
     }
 
@@ -74,7 +74,7 @@ impl AnyPlan {
     {
         match self {
             AnyPlan::Boosting(plan) => write_plan(plan, plan.version(), sink),
-            AnyPlan::Pulses(plan) => write_pulses(plan, sink),
+            AnyPlan::Halving(plan) => write_halving(plan, sink),
         }
     }
 }

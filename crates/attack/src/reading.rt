@@ -7,9 +7,9 @@ ghost use Rattle.program_words.specs.Conduct.{FailsAs};
 
 use crate::plans::AnyPlan;
 use crate::reasons::{AttackError, AttackReason};
+use halving_texts::{HalvingError, read_whole_halving};
 use plan_reader::{PlanError, first_unskipped, read_whole_plan};
 use program_words::ProgramError;
-use pulse_texts::{PulsesError, read_whole_pulses};
 use std::alloc::Global;
 
 /// Whether the line is the first one that counts, or no line does.
@@ -40,27 +40,27 @@ fn read_boosting(alloc: Global, text: &[u8]) -> Result<AnyPlan, AttackError>
     }
 }
 
-/// The plan that a text is, after which only skipped lines stand: a pulse plan, or one of levels
+/// The plan that a text is, after which only skipped lines stand: a halving plan, or one of levels
 /// over blocks.
 ///
-/// `Pulses` is the first line that fails of a text whose first line that counts is that of a pulse
+/// `Halving` is the first line that fails of a text whose first line that counts is that of a halving
 /// plan, and `Boosting` that of any other text, each with its first premise.
 pub fn read_any_plan(alloc: Global, text: &[u8]) -> Result<AnyPlan, AttackError>
     ensures read { IfOk result (λ plan. plan_answer text.now ≡ Ok plan) }
     ensures fails { IfErr result (FailsAs (plan_answer text.now)) }
     ensures accepted { IfOk result IsAcceptedPlan }
 {
-    match read_whole_pulses(text) {
+    match read_whole_halving(text) {
         Ok(plan) => {
             plan.facts();
-            Ok(AnyPlan::Pulses(plan))
+            Ok(AnyPlan::Halving(plan))
         }
-        Err(PulsesError::NoMemory) => Err(ProgramError::NoMemory),
-        Err(PulsesError::Refused(refusal)) => {
+        Err(HalvingError::NoMemory) => Err(ProgramError::NoMemory),
+        Err(HalvingError::Refused(refusal)) => {
             if is_first(first_unskipped(text, 1), refusal.line) {
                 read_boosting(alloc, text)
             } else {
-                Err(ProgramError::Refused(AttackReason::Pulses(refusal)))
+                Err(ProgramError::Refused(AttackReason::Halving(refusal)))
             }
         }
     }

@@ -3,9 +3,9 @@ ghost use Rattle.texts.specs.Growth.{Puts};
 ghost use Rattle.attack.specs.Reasons.{premise_word, plan_line};
 
 use edge_io::{Piece, Sink, WriteFault, put_all, put_pieces};
+use halving_texts::HalvingRefusal;
 use plan_reader::PlanRefusal;
 use program_words::{ProgramError, Reason, TOO_LONG};
-use pulse_texts::PulsesRefusal;
 use sync_types::Premise;
 
 /// Why there is no attack on the plan of an input.
@@ -13,8 +13,8 @@ use sync_types::Premise;
 pub enum AttackReason {
     /// The input is no plan: its first line that fails.
     Boosting(PlanRefusal),
-    /// The input begins as a pulse plan, and is none: its first line that fails.
-    Pulses(PulsesRefusal),
+    /// The input begins as a halving plan, and is none: its first line that fails.
+    Halving(HalvingRefusal),
     /// None of the attacks that were tried is a script for the plan. Of at least one try some is.
     NoScript,
 }
@@ -82,7 +82,7 @@ impl Reason for AttackReason {
 
     fn code(&self) -> u8 {
         match *self {
-            AttackReason::Boosting(_) | AttackReason::Pulses(_) => NO_PLAN,
+            AttackReason::Boosting(_) | AttackReason::Halving(_) => NO_PLAN,
             AttackReason::NoScript => NO_SCRIPT,
         }
     }
@@ -90,7 +90,7 @@ impl Reason for AttackReason {
     fn put_line<K: Sink>(&self, sink: &mut K) -> Result<(), WriteFault> {
         match *self {
             AttackReason::Boosting(refusal) => put_plan_line(sink, refusal),
-            AttackReason::Pulses(refusal) => pulse_texts::put_refusal(sink, refusal),
+            AttackReason::Halving(refusal) => halving_texts::put_refusal(sink, refusal),
             AttackReason::NoScript => put_all(sink, b"no attack that was tried is a script\n"),
         }
     }

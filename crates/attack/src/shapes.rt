@@ -3,12 +3,12 @@
 ghost use Rattle.std.specs.Prelude.{◌≡◌, IfOk};
 ghost use Rattle.state_codec.specs.Shapes as boosting;
 ghost use Rattle.plan_machine.specs.PlanMachines.{machine_of_plan};
-ghost use Rattle.pulse_texts.specs.PulseShapes as pulses;
-ghost use Rattle.pulse_plan.specs.Laws.{machine_in};
+ghost use Rattle.halving_texts.specs.HalvingShapes as halving;
+ghost use Rattle.halving_plan.specs.Laws.{machine_in};
 ghost use Rattle.machine_runner.specs.Laws.{IsShapeOf};
 
+use halving_plan::HalvingPlan;
 use plan_numbers::Plan;
-use pulse_plan::PulsePlan;
 use state_codec::StateShape;
 use std::alloc::Global;
 use sync_types::NoMemory;
@@ -23,11 +23,11 @@ pub fn boosting_shape(alloc: Global, plan: &Plan) -> Result<StateShape, NoMemory
     Ok(shape)
 }
 
-/// The shape of the states of a pulse plan.
-pub fn pulses_shape(alloc: Global, plan: &PulsePlan) -> Result<StateShape, NoMemory>
-    ensures value { IfOk result (λ shape. shape ≡ pulses.shape_of plan.now) }
+/// The shape of the states of a halving plan.
+pub fn halving_shape(alloc: Global, plan: &HalvingPlan) -> Result<StateShape, NoMemory>
+    ensures value { IfOk result (λ shape. shape ≡ halving.shape_of plan.now) }
     ensures fits { IfOk result (λ shape. IsShapeOf (machine_in plan.now) shape) }
 {
     plan.facts();
-    pulse_texts::shape_of(alloc, plan)
+    halving_texts::shape_of(alloc, plan)
 }

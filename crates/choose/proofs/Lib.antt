@@ -4,6 +4,6 @@ pub mod Least
 pub mod Grown
 pub mod Texts
 pub mod Both
-pub mod PulseTexts
+pub mod HalvingPlanTexts
 pub mod MostFaults
 pub mod Short

@@ -8,7 +8,7 @@ use Rattle.construction.specs.Plans.{Plan}
 use Rattle.plan_finder.specs.declared.wants.Want.{Want}
 use Rattle.plan_finder.specs.FindPart.{IsFit}
 use Rattle.choose.specs.declared.any_plans.AnyPlan.{AnyPlan}
-use Rattle.choose.specs.declared.any_plans.AnyPlan.TheVariants.{Boosting, Pulses}
+use Rattle.choose.specs.declared.any_plans.AnyPlan.TheVariants.{Boosting, Halving}
 use Rattle.choose.specs.declared.requests.Scope.{Scope}
 use Rattle.choose.specs.declared.requests.Scope.TheVariants as scope
 use Rattle.choose.specs.Fronts as boosting
@@ -55,7 +55,7 @@ boosting_can n f plan bears = (Boosting plan, tt, boosting_tolerates n f plan be
 none_by : (n f : ℕ) → ((plan : Plan) → ¬ Bears n f plan) → (plan : AnyPlan)
     → IsIn scope.Boosting plan → ¬ Tolerates n f plan
 none_by n f none (Boosting plan) within tolerates = none plan (boosting_bears n f plan tolerates)
-none_by n f none (Pulses plan) within tolerates = within
+none_by n f none (Halving plan) within tolerates = within
 
 boosting_cannot : (n f : ℕ) → ((plan : Plan) → ¬ Bears n f plan)
     → ¬ CanTolerate scope.Boosting n f
@@ -88,7 +88,7 @@ can_both n zero few room = (
       (lone_least n 2 (omega (arith, room)) (omega arith) (omega arith)).member,
 )
 can_both n (suc f) few room = (
-  Pulses (fewest (suc f) 2),
+  Halving (fewest (suc f) 2),
   tt,
   record {
     accepted = fewest_accepted (suc f) 2 (omega arith) (omega (arith, few, room)) (omega arith)

@@ -3,31 +3,31 @@ use Rattle.std.specs.Prelude.{◌≡◌, ℕ, ◌<◌, ◌≤◌, List, [], ◌�
 use Rattle.std.specs.List.{All, Any, AllPairs}
 use Rattle.construction.specs.Plans.{plan_nodes, plan_faults, plan_modulus, plan_bound}
 use Rattle.plan_numbers.specs.Premises as boosting
-use Rattle.pulse_plan.specs.Halvings.{halving_bound}
-use Rattle.pulse_plan.specs.Plans as pulses
+use Rattle.halving_plan.specs.Trees.{tree_bound}
+use Rattle.halving_plan.specs.Plans as halving
 use Rattle.choose.specs.declared.any_plans.AnyPlan.{AnyPlan}
-use Rattle.choose.specs.declared.any_plans.AnyPlan.TheVariants.{Boosting, Pulses}
+use Rattle.choose.specs.declared.any_plans.AnyPlan.TheVariants.{Boosting, Halving}
 
 -- the numbers of a plan
 abbrev pub nodes_of : AnyPlan → ℕ
 nodes_of (Boosting plan) = plan_nodes plan
-nodes_of (Pulses plan) = plan.nodes
+nodes_of (Halving plan) = plan.nodes
 
 abbrev pub faults_of : AnyPlan → ℕ
 faults_of (Boosting plan) = plan_faults plan
-faults_of (Pulses plan) = plan.faults
+faults_of (Halving plan) = plan.faults
 
 abbrev pub modulus_of : AnyPlan → ℕ
 modulus_of (Boosting plan) = plan_modulus plan
-modulus_of (Pulses plan) = plan.modulus
+modulus_of (Halving plan) = plan.modulus
 
 abbrev pub bound_of : AnyPlan → ℕ
 bound_of (Boosting plan) = plan_bound plan
-bound_of (Pulses plan) = halving_bound (pulses.tree_of plan)
+bound_of (Halving plan) = tree_bound (halving.tree_of plan)
 
 abbrev pub IsAccepted : AnyPlan → Type 0
 IsAccepted (Boosting plan) = boosting.IsAccepted plan
-IsAccepted (Pulses plan) = pulses.IsAccepted plan
+IsAccepted (Halving plan) = halving.IsAccepted plan
 
 -- an accepted plan with at most n nodes that tolerates f faults or more
 pub record Tolerates (n f : ℕ) (plan : AnyPlan) : Type 0 where
@@ -36,10 +36,10 @@ pub record Tolerates (n f : ℕ) (plan : AnyPlan) : Type 0 where
   pub faults : f ≤ faults_of plan
 
 -- A plan of the boosting construction, of version 2, if no fault is to be tolerated, and else a
--- pulse plan.
+-- halving plan.
 abbrev pub IsOfForm : (f : ℕ) → AnyPlan → Type 0
 IsOfForm f (Boosting plan) = (plan.version ≡ 2) × (f ≡ 0)
-IsOfForm f (Pulses plan) = 1 ≤ f
+IsOfForm f (Halving plan) = 1 ≤ f
 
 -- such a plan that counts by c
 pub record Suits (f c most : ℕ) (plan : AnyPlan) : Type 0 where

@@ -10,10 +10,10 @@ help_text = concat (
     ∷ codes "faults or more (0 to 85), count by MODULUS (2 to 2^40) and have at\n"
     ∷ codes "most MOST_NODES nodes (1 to 256; left out 256): a line for each plan,\n"
     ∷ codes "with more nodes and a lesser bound than the one before, or none.\n"
-    ∷ codes "boosting: of the plans of counterlab alone, not of pulselab.\n"
+    ∷ codes "boosting: of the plans of counterlab alone, not of halvinglab.\n"
     ∷ codes "plan: the plan of the last line alone, in lines.\n"
     ∷ codes "within: a plan that tolerates the most faults of all plans with at most\n"
     ∷ codes "NODES nodes (1 to 256) and a bound of at most BOUND rounds.\n" ∷ [])
 
 abbrev pub version_text : List ℕ
-version_text = codes "choose 1.0\n"
+version_text = codes "choose 2.0\n"

@@ -1,6 +1,6 @@
 -- The plan of most faults within so many nodes and rounds, of both constructions.
 use Rattle.std.specs.Prelude.{ℕ, ◌*◌, ◌<◌, ◌≤◌, Some}
-use Rattle.pulse_plan.specs.Halvings.{halving_of, halving_bound}
+use Rattle.halving_plan.specs.Trees.{tree_for, tree_bound}
 use Rattle.choose.specs.declared.any_plans.AnyPlan.{AnyPlan}
 use Rattle.choose.specs.FrontsOfBoth.{nodes_of, faults_of, bound_of, IsAccepted, IsFrontOfBoth}
 
@@ -18,12 +18,12 @@ pub record IsMost (n t c : ℕ) (plan : AnyPlan) : Type 0 where
   pub bound : bound_of plan ≤ t
   pub most : (other : AnyPlan) → IsWithin n t other → faults_of other ≤ faults_of plan
 
--- the bound of pulse plans that tolerate f faults
-abbrev pub pulse_bound : (f : ℕ) → ℕ
-pulse_bound f = halving_bound (halving_of f 0)
+-- the bound of halving plans that tolerate f faults
+abbrev pub halving_bound : (f : ℕ) → ℕ
+halving_bound f = tree_bound (tree_for f 0)
 
--- the most faults of pulse plans within these limits, of those that are fewer than top
+-- the most faults of halving plans within these limits, of those that are fewer than top
 pub record AreMost (n t top f : ℕ) : Type 0 where
   pub quorum : 3 * f < n
-  pub bound : pulse_bound f ≤ t
-  pub most : (g : ℕ) → g < top → pulse_bound g ≤ t → g ≤ f
+  pub bound : halving_bound f ≤ t
+  pub most : (g : ℕ) → g < top → halving_bound g ≤ t → g ≤ f

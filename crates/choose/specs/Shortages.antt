@@ -5,7 +5,7 @@ use Rattle.std.specs.List.{concat}
 use Rattle.construction.specs.Plans.{Plan}
 use Rattle.plan_finder.specs.declared.wants.Want.{Want}
 use Rattle.choose.specs.declared.any_plans.AnyPlan.{AnyPlan}
-use Rattle.choose.specs.declared.any_plans.AnyPlan.TheVariants.{Boosting, Pulses}
+use Rattle.choose.specs.declared.any_plans.AnyPlan.TheVariants.{Boosting, Halving}
 use Rattle.choose.specs.declared.requests.Scope.{Scope}
 use Rattle.choose.specs.declared.requests.Scope.TheVariants as scope
 use Rattle.choose.specs.declared.shortages.Shortage.{Shortage}
@@ -16,13 +16,14 @@ use Rattle.choose.specs.FrontsOfBoth.{Tolerates, IsFrontOf}
 abbrev pub IsIn : Scope → AnyPlan → Type 0
 IsIn scope.Both plan = Unit {0}
 IsIn scope.Boosting (Boosting plan) = Unit {0}
-IsIn scope.Boosting (Pulses plan) = ⊥
+IsIn scope.Boosting (Halving plan) = ⊥
 
 -- an accepted one of them, whatever it counts by, tolerates f faults, or more, with at most n nodes
 abbrev pub CanTolerate : Scope → (n f : ℕ) → Type 0
 CanTolerate scope n f = (plan : AnyPlan) × IsIn scope plan × Tolerates n f plan
 
--- how many nodes f faults take, None if no plan of at most 256 nodes tolerates them
+-- How many nodes f faults take, None if no plan of at most 256 nodes tolerates them. Accepted plans
+-- have at most 16 blocks a level and moduli up to 2^40, too.
 abbrev pub AreFewest : Scope → (f : ℕ) → Option ℕ → Type 0
 AreFewest scope f (Some n) = CanTolerate scope n f × ((m : ℕ) → CanTolerate scope m f → n ≤ m)
 AreFewest scope f None = (m : ℕ) → m ≤ 256 → ¬ CanTolerate scope m f
@@ -61,7 +62,8 @@ nodes_part f (Some n) = concat (
     ∷ codes " takes MOST_NODES of at least " ∷ decimal n ∷ [])
 nodes_part f None = concat (
     codes "none: FAULTS " ∷ decimal f
-    ∷ codes " is more than any boosting plan of at most 256 nodes tolerates" ∷ [])
+    ∷ codes " is more than any boosting plan of at most 256 nodes, 16 blocks a level "
+    ∷ codes "and a modulus of 2^40 tolerates" ∷ [])
 
 abbrev pub faults_part : (n f : ℕ) → List ℕ
 faults_part n f = concat (

@@ -4,14 +4,16 @@ ghost use Rattle.std.specs.Prelude.{map, string_bytes};
 ghost use Rattle.choose.specs.Requests.{request_of, HasFitWant, IsRoom};
 ghost use Rattle.choose.specs.Conduct.{Answers, DoesAsked, Explains, ExplainsWants};
 ghost use Rattle.choose.specs.FrontText.{TextsArePlans};
-ghost use Rattle.choose.specs.FrontsOfBothText.{PulseTextsArePlans};
+ghost use Rattle.choose.specs.FrontsOfBothText.{HalvingTextsArePlans};
 ghost use Rattle.choose.specs.Shortages.{ModulusDecidesNothing};
+ghost use Rattle.choose.specs.Compared.{BoostingIsOutdone};
 ghost use Rattle.choose.specs.declared.requests.Request.TheVariants as request;
 ghost use Rattle.plan_finder.specs.FindPart.{IsFit};
 
 use crate::fronts::front;
 use crate::fronts_of_both::front_of_both;
-use crate::laws::{modulus_decides_nothing, pulse_texts_are_plans, texts_are_plans};
+use crate::laws::{boosting_is_outdone, halving_texts_are_plans};
+use crate::laws::{modulus_decides_nothing, texts_are_plans};
 use crate::most_faults::most_plan;
 use crate::reasons::ChooseError;
 use crate::requests::{Request, Room, Scope, request_of};
@@ -30,7 +32,7 @@ const HELP: &[u8] = b"usage: choose [boosting] FAULTS MODULUS [MOST_NODES] [plan
     faults or more (0 to 85), count by MODULUS (2 to 2^40) and have at\n\
     most MOST_NODES nodes (1 to 256; left out 256): a line for each plan,\n\
     with more nodes and a lesser bound than the one before, or none.\n\
-    boosting: of the plans of counterlab alone, not of pulselab.\n\
+    boosting: of the plans of counterlab alone, not of halvinglab.\n\
     plan: the plan of the last line alone, in lines.\n\
     within: a plan that tolerates the most faults of all plans with at most\n\
     NODES nodes (1 to 256) and a bound of at most BOUND rounds.\n";
@@ -169,13 +171,18 @@ pub fn choose<K: Sink>(alloc: Global, words: &[String], sink: &mut K) -> Result<
 
     // And what is written of a plan is read as that plan.
     ensures read { TextsArePlans }
-    ensures pulses_read { PulseTextsArePlans }
+    ensures halving_read { HalvingTextsArePlans }
+
+    // The halving plan of as many faults and the same modulus has no more nodes than a boosting
+    // plan that tolerates a fault, and a lesser bound.
+    ensures outdone { BoostingIsOutdone }
 {
     texts_are_plans();
-    pulse_texts_are_plans();
+    halving_texts_are_plans();
+    boosting_is_outdone();
     match asked_by(words, request_of(words)) {
         Asked::Help => Ok(put_all(sink, HELP)?),
-        Asked::Version => Ok(put_all(sink, b"choose 1.0\n")?),
+        Asked::Version => Ok(put_all(sink, b"choose 2.0\n")?),
         Asked::Request(request) => write_answer(alloc, request, sink),
         Asked::Nothing => Err(ProgramError::Usage),
     }

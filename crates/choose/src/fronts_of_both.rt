@@ -5,17 +5,17 @@ ghost use Rattle.choose.specs.FrontsOfBoth.{IsFrontOfBoth};
 
 use crate::any_plans::AnyPlan;
 use crate::searching::one_node;
-use pulse_plan::PulsePlan;
+use halving_plan::HalvingPlan;
 use std::alloc::Global;
 use sync_types::NoMemory;
 
-/// The pulse plan of fewest nodes that tolerates `f` faults.
-pub fn fewest_nodes(f: u64, c: u64) -> PulsePlan
+/// The halving plan of fewest nodes that tolerates `f` faults.
+pub fn fewest_nodes(f: u64, c: u64) -> HalvingPlan
     requires faults { (1 ≤ f) × (f ≤ 85) }
     requires modulus { (2 ≤ c) × (c ≤ 2 ^ 40) }
     ensures { result ≡ record { nodes = 3 * f + 1; faults = f; modulus = c } }
 {
-    match PulsePlan::new(3 * f + 1, f, c) {
+    match HalvingPlan::new(3 * f + 1, f, c) {
         Ok(plan) => plan,
         Err(_) => unreachable!(),
     }
@@ -25,7 +25,7 @@ pub fn fewest_nodes(f: u64, c: u64) -> PulsePlan
 /// faults or more and have at most `most` nodes: it is one plan, which counts by `c`, or none. Each
 /// accepted plan that tolerates `f` faults with at most `most` nodes, whatever it counts by, has at
 /// least its nodes and its bound; there is none exactly if there is no such plan. If no fault is to
-/// be tolerated it is a plan of one node, of the boosting construction; else it is a pulse plan.
+/// be tolerated it is a plan of one node, of the boosting construction; else it is a halving plan.
 /// `f` is at most 85, `c` from 2 to 2^40, `most` at most 256.
 pub fn front_of_both(alloc: Global, f: u64, c: u64, most: u64) -> Result<Option<AnyPlan>, NoMemory>
     requires faults { f ≤ 85 }
@@ -40,5 +40,5 @@ pub fn front_of_both(alloc: Global, f: u64, c: u64, most: u64) -> Result<Option<
         let plan = one_node(alloc, c)?;
         return Ok(Some(AnyPlan::Boosting(plan)));
     }
-    Ok(Some(AnyPlan::Pulses(fewest_nodes(f, c))))
+    Ok(Some(AnyPlan::Halving(fewest_nodes(f, c))))
 }

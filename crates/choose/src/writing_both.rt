@@ -3,19 +3,19 @@
 ghost use Rattle.std.specs.Prelude.{◌++◌};
 ghost use Rattle.texts.specs.Growth.{Puts};
 ghost use Rattle.edge_io.specs.Writing.{Writes};
-ghost use Rattle.choose.specs.FrontsOfBothText.{pulse_numbers_part, pulse_part, any_line, any_text};
+ghost use Rattle.choose.specs.FrontsOfBothText.{halving_numbers_part, halving_line_part, any_line, any_text};
 ghost use Rattle.choose.specs.FrontsOfBothText.{both_front_text, both_plan_text};
 
 use crate::any_plans::AnyPlan;
 use crate::writing::put_line;
 use edge_io::{Piece, Sink, WriteFault, Writer, put_all};
+use halving_plan::{HalvingPlan, levels, state_bytes};
+use halving_texts::write_halving;
 use plan_reader::write_plan;
-use pulse_plan::{PulsePlan, levels, state_bytes};
-use pulse_texts::write_pulses;
 
-/// The numbers of a pulse plan.
-fn put_pulse_numbers<K: Sink>(writer: &mut Writer<'_, K>, plan: &PulsePlan)
-    ensures { Writes K.told (pulse_numbers_part plan.now) writer.old writer.new }
+/// The numbers of a halving plan.
+fn put_halving_numbers<K: Sink>(writer: &mut Writer<'_, K>, plan: &HalvingPlan)
+    ensures { Writes K.told (halving_numbers_part plan.now) writer.old writer.new }
 {
     writer.pieces(&[
         Piece::Text(b"nodes "),
@@ -30,12 +30,12 @@ fn put_pulse_numbers<K: Sink>(writer: &mut Writer<'_, K>, plan: &PulsePlan)
     ]);
 }
 
-/// The text of a pulse plan, in one line.
-fn put_pulse_part<K: Sink>(writer: &mut Writer<'_, K>, plan: &PulsePlan)
-    ensures { Writes K.told (pulse_part plan.now) writer.old writer.new }
+/// The text of a halving plan, in one line.
+fn put_halving_part<K: Sink>(writer: &mut Writer<'_, K>, plan: &HalvingPlan)
+    ensures { Writes K.told (halving_line_part plan.now) writer.old writer.new }
 {
     writer.pieces(&[
-        Piece::Text(b"pulses 1;group "),
+        Piece::Text(b"halving 1;group "),
         Piece::Number(u64::from(plan.nodes())),
         Piece::Text(b" "),
         Piece::Number(u64::from(plan.faults())),
@@ -45,12 +45,12 @@ fn put_pulse_part<K: Sink>(writer: &mut Writer<'_, K>, plan: &PulsePlan)
     ]);
 }
 
-fn put_pulse_line<K: Sink>(writer: &mut Writer<'_, K>, plan: &PulsePlan)
-    ensures { Writes K.told (pulse_numbers_part plan.now ++ pulse_part plan.now)
+fn put_halving_line<K: Sink>(writer: &mut Writer<'_, K>, plan: &HalvingPlan)
+    ensures { Writes K.told (halving_numbers_part plan.now ++ halving_line_part plan.now)
         writer.old writer.new }
 {
-    put_pulse_numbers(writer, plan);
-    put_pulse_part(writer, plan);
+    put_halving_numbers(writer, plan);
+    put_halving_part(writer, plan);
 }
 
 /// The line of a plan.
@@ -59,7 +59,7 @@ fn put_any_line<K: Sink>(writer: &mut Writer<'_, K>, plan: &AnyPlan)
 {
     match plan {
         AnyPlan::Boosting(plan) => put_line(writer, plan),
-        AnyPlan::Pulses(plan) => put_pulse_line(writer, plan),
+        AnyPlan::Halving(plan) => put_halving_line(writer, plan),
     }
 }
 
@@ -92,7 +92,7 @@ pub fn write_both_plan<K: Sink>(plan: &Option<AnyPlan>, sink: &mut K) -> Result<
 {
     match plan {
         Some(AnyPlan::Boosting(plan)) => write_plan(plan, 2, sink),
-        Some(AnyPlan::Pulses(plan)) => write_pulses(plan, sink),
+        Some(AnyPlan::Halving(plan)) => write_halving(plan, sink),
         None => put_all(sink, b"none\n"),
     }
 }

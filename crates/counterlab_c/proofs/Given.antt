@@ -14,7 +14,7 @@ failed : {V : Type 0} (e : CallError) (defined : Result V CallError) → FailsAs
     → (defined ≡ Err e) ⊎ (e ≡ error.NoMemory)
 failed error.NoMemory defined is = inr refl
 failed (error.Refused refusal) defined is = inl is
-failed (error.PulsesRefused refusal) defined is = inl is
+failed (error.HalvingRefused refusal) defined is = inl is
 failed error.Node defined is = inl is
 failed error.Length defined is = inl is
 failed (error.Cut packet sender) defined is = inl is

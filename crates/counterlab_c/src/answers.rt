@@ -1,11 +1,11 @@
 ghost use Rattle.std.specs.Prelude.{◌≡◌};
-ghost use Rattle.counterlab_c.specs.Codes.{premise_number, pulses_premise_number, answer_of};
+ghost use Rattle.counterlab_c.specs.Codes.{premise_number, halving_premise_number, answer_of};
 ghost use Rattle.counterlab_c.specs.Codes.{numbers_of};
 
+use halving_plan::HalvingPremise;
+use halving_texts::LinePremise;
 use machines::Machine;
 use node_calls::{AnyMachine, CallError};
-use pulse_plan::PulsePremise;
-use pulse_texts::LinePremise;
 use sync_types::Premise;
 
 /// What a call answers. The codes are those by which the program `counterlab` ends for the like.
@@ -68,16 +68,16 @@ fn premise_number(premise: Premise) -> u32
     }
 }
 
-/// The number of a premise of a pulse plan: the same for the same name.
-fn pulses_premise_number(premise: LinePremise) -> u32
-    ensures { result ≡ pulses_premise_number premise }
+/// The number of a premise of a halving plan: the same for the same name.
+fn halving_premise_number(premise: LinePremise) -> u32
+    ensures { result ≡ halving_premise_number premise }
 {
     match premise {
         LinePremise::Form => 1,
-        LinePremise::Plan(PulsePremise::Limit) => 2,
-        LinePremise::Plan(PulsePremise::Modulus) => 4,
-        LinePremise::Plan(PulsePremise::Quorum) => 5,
-        LinePremise::Plan(PulsePremise::Single) => 8,
+        LinePremise::Plan(HalvingPremise::Limit) => 2,
+        LinePremise::Plan(HalvingPremise::Modulus) => 4,
+        LinePremise::Plan(HalvingPremise::Quorum) => 5,
+        LinePremise::Plan(HalvingPremise::Single) => 8,
     }
 }
 
@@ -88,8 +88,8 @@ pub(crate) fn answer_of(outcome: Result<u64, CallError>) -> Answer
     let (code, detail, value) = match outcome {
         Ok(number) => (0, 0, number),
         Err(CallError::Refused(refusal)) => (1, premise_number(refusal.premise), refusal.line),
-        Err(CallError::PulsesRefused(refusal)) => {
-            (1, pulses_premise_number(refusal.premise), refusal.line)
+        Err(CallError::HalvingRefused(refusal)) => {
+            (1, halving_premise_number(refusal.premise), refusal.line)
         }
         Err(CallError::Node) => (3, 1, 0),
         Err(CallError::Length) => (3, 2, 0),

@@ -1,6 +1,6 @@
 //! Draws what `counterlab run`, `trace`, `sweep` or `choose` writes: of a run and of a trace a
 //! picture in SVG with a column for each configuration and a line of cells for each node; of a
-//! trace also a strip for each level, or each group of a pulse plan, with the kings' turns above
+//! trace also a strip for each level, or each group of a halving plan, with the kings' turns above
 //! it; of a sweep bars, and of a choice a point for each plan. It reads standard input and writes
 //! standard output; with `--page` it writes a page for a browser. What it draws is said in
 //! [`run_pictures`].

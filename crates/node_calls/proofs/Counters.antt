@@ -16,14 +16,14 @@ use Rattle.state_codec.proofs.FullNumbers.{fields_short}
 use Rattle.plan_machine.specs.PlanMachines.{machine_of_plan}
 use Rattle.plan_machine.proofs.Sound.{accepted_are_sound}
 use Rattle.machines.specs.Laws.{IsSound}
-use Rattle.pulse_plan.proofs.Sound.{accepted_are_sound as pulses_sound}
-use Rattle.pulse_plan.specs.Plans.{PulseNumbers, IsAccepted as IsAcceptedPulses}
-use Rattle.pulse_plan.proofs.FewBits.{few_bits as pulses_few_bits}
-use Rattle.pulse_texts.specs.declared.premises.LinePremise.{LinePremise}
-use Rattle.pulse_texts.proofs.Rewritten.{texts_are_rewritten}
-use Rattle.pulse_texts.specs.PulsesPart.{pulses_of, whole_pulses_of, alone, unless_followed}
+use Rattle.halving_plan.proofs.Sound.{accepted_are_sound as halving_sound}
+use Rattle.halving_plan.specs.Plans.{HalvingNumbers, IsAccepted as IsAcceptedHalving}
+use Rattle.halving_plan.proofs.FewBits.{few_bits as halving_few_bits}
+use Rattle.halving_texts.specs.declared.premises.LinePremise.{LinePremise}
+use Rattle.halving_texts.proofs.Rewritten.{texts_are_rewritten}
+use Rattle.halving_texts.specs.HalvingPart.{halving_of, whole_halving_of, alone, unless_followed}
 use Rattle.node_calls.specs.declared.any_machines.AnyMachine.{AnyMachine}
-use Rattle.node_calls.specs.declared.any_machines.AnyMachine.TheVariants.{Boosting, Pulses}
+use Rattle.node_calls.specs.declared.any_machines.AnyMachine.TheVariants.{Boosting, Halving}
 use Rattle.node_calls.specs.Machines.{machine_of}
 use Rattle.node_calls.specs.declared.errors.CallError.{CallError}
 use Rattle.node_calls.specs.Counters.{and_then, plan_or_refused, plan_answer, plan_counter}
@@ -32,7 +32,7 @@ use Rattle.node_calls.specs.Counters.{is_first, counter_by, counter_answer}
 -- the plan of a counter is accepted
 abbrev pub IsAcceptedCounter : AnyMachine → Type 0
 IsAcceptedCounter (Boosting plan) = IsAccepted plan
-IsAcceptedCounter (Pulses plan) = IsAcceptedPulses plan
+IsAcceptedCounter (Halving plan) = IsAcceptedHalving plan
 
 accepted_of : (r : Result Plan (At Premise)) (plan : Plan) → plan_or_refused r ≡ Ok plan
     → IfOk r IsAccepted → IsAccepted plan
@@ -56,36 +56,36 @@ plan_is text counter is =
     (accepted_of (whole_plan_of text) found.0 found.1 (whole_plan_accepted text))
 
 -- numbers that are read are accepted
-whole_is : (first : Option ℕ) (read plan : PulseNumbers) → unless_followed first read ≡ Ok plan
+whole_is : (first : Option ℕ) (read plan : HalvingNumbers) → unless_followed first read ≡ Ok plan
     → plan ≡ read
 whole_is None read plan is = cc
 whole_is (Some number) read plan is = absurd cc
 
-accepted_by : (r : Result (Found PulseNumbers) (At LinePremise)) (plan : PulseNumbers)
+accepted_by : (r : Result (Found HalvingNumbers) (At LinePremise)) (plan : HalvingNumbers)
     → alone r ≡ Ok plan
-    → ((found : Found PulseNumbers) → r ≡ Ok found → IsAcceptedPulses found.value)
-    → IsAcceptedPulses plan
+    → ((found : Found HalvingNumbers) → r ≡ Ok found → IsAcceptedHalving found.value)
+    → IsAcceptedHalving plan
 accepted_by (Ok found) plan is accepted =
-    subst IsAcceptedPulses (sym (whole_is _ found.value plan is)) (accepted found refl)
+    subst IsAcceptedHalving (sym (whole_is _ found.value plan is)) (accepted found refl)
 accepted_by (Err at) plan is accepted = absurd cc
 
-pulses_accepted : (text : List ℕ) (plan : PulseNumbers) → whole_pulses_of text ≡ Ok plan
-    → IsAcceptedPulses plan
-pulses_accepted text plan is =
-    accepted_by (pulses_of text) plan is (λ found read. (texts_are_rewritten text found read).0)
+halving_accepted : (text : List ℕ) (plan : HalvingNumbers) → whole_halving_of text ≡ Ok plan
+    → IsAcceptedHalving plan
+halving_accepted text plan is =
+    accepted_by (halving_of text) plan is (λ found read. (texts_are_rewritten text found read).0)
 
--- the counter of a text that is no pulse plan is that of a plan
+-- the counter of a text that is no halving plan is that of a plan
 test_is : (test : Bool) (answer : Result AnyMachine CallError) (e : CallError)
     (counter : AnyMachine) → cond test answer (Err e) ≡ Ok counter → answer ≡ Ok counter
 test_is true answer e counter is = is
 test_is false answer e counter is = absurd cc
 
-read_by : (text : List ℕ) (r : Result PulseNumbers (At LinePremise)) (counter : AnyMachine)
+read_by : (text : List ℕ) (r : Result HalvingNumbers (At LinePremise)) (counter : AnyMachine)
     → counter_by (first_unskipped 1 (lines_of text)) text r ≡ Ok counter
-    → ((plan : PulseNumbers) → r ≡ Ok plan → IsAcceptedPulses plan)
+    → ((plan : HalvingNumbers) → r ≡ Ok plan → IsAcceptedHalving plan)
     → IsAcceptedCounter counter
 read_by text (Ok plan) counter is accepted =
-    let same : counter ≡ Pulses plan = cc in
+    let same : counter ≡ Halving plan = cc in
     subst IsAcceptedCounter (sym same) (accepted plan refl)
 read_by text (Err at) counter is accepted =
     plan_is text counter
@@ -96,12 +96,12 @@ read_by text (Err at) counter is accepted =
 pub read_is_accepted : (text : List ℕ) (counter : AnyMachine) → counter_answer text ≡ Ok counter
     → IsAcceptedCounter counter
 read_is_accepted text counter is =
-    read_by text (whole_pulses_of text) counter is (pulses_accepted text)
+    read_by text (whole_halving_of text) counter is (halving_accepted text)
 
 accepted_is_sound : (counter : AnyMachine) → IsAcceptedCounter counter
     → IsSound (machine_of counter)
 accepted_is_sound (Boosting plan) accepted = accepted_are_sound plan accepted
-accepted_is_sound (Pulses plan) accepted = pulses_sound plan accepted
+accepted_is_sound (Halving plan) accepted = halving_sound plan accepted
 
 -- so its machine is sound
 pub sound_of : (text : List ℕ) (counter : AnyMachine) → counter_answer text ≡ Ok counter
@@ -120,9 +120,9 @@ few_bits (Boosting plan) accepted sound v node =
       sound.depth v node,
       accepted_depth plan.base plan.levels accepted.levels,
     ))
-few_bits (Pulses plan) accepted sound v node =
-    let few : bits_in ((machine_of (Pulses plan)).fields v) ≤ 715 =
-    pulses_few_bits plan accepted v in
+few_bits (Halving plan) accepted sound v node =
+    let few : bits_in ((machine_of (Halving plan)).fields v) ≤ 464 =
+    halving_few_bits plan accepted v in
     omega (arith, few)
 
 -- a state of a node fits into a cell
@@ -137,6 +137,6 @@ states_fit text counter is v node =
 
 -- ---- what is answered by how the text is read
 
-pub of_pulses : (text : List ℕ) (plan : PulseNumbers) → whole_pulses_of text ≡ Ok plan
-    → counter_answer text ≡ Ok (Pulses plan)
-of_pulses text plan is = ap (counter_by (first_unskipped 1 (lines_of text)) text) is
+pub of_halving : (text : List ℕ) (plan : HalvingNumbers) → whole_halving_of text ≡ Ok plan
+    → counter_answer text ≡ Ok (Halving plan)
+of_halving text plan is = ap (counter_by (first_unskipped 1 (lines_of text)) text) is

@@ -55,7 +55,7 @@ module _ {M : Type 0} (machine : M → Machine) (counter : M) (id : ℕ)
     hears_none after (error.Cut packet sender) ending = step_is ∙ ap (by_ending new_bytes) ending
     hears_none after error.TooLong ending = step_is ∙ ap (by_ending new_bytes) ending
     hears_none after (error.Refused refusal) ending = absurd ending
-    hears_none after (error.PulsesRefused refusal) ending = absurd ending
+    hears_none after (error.HalvingRefused refusal) ending = absurd ending
     hears_none after error.Node ending = absurd ending
     hears_none after error.Length ending = absurd ending
     hears_none after error.NoMemory ending = absurd ending

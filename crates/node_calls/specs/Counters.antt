@@ -1,4 +1,4 @@
--- The counter of a text: that of a pulse plan, or that of a plan of levels over blocks.
+-- The counter of a text: that of a halving plan, or that of a plan of levels over blocks.
 use Rattle.std.specs.Prelude.{◌≡◌, ℕ, ◌==◌, if◌then◌else◌, Bool, true, List, Option, Some, None}
 use Rattle.std.specs.Prelude.{Result, Ok, Err}
 use Rattle.texts.specs.Lines.{lines_of}
@@ -7,15 +7,15 @@ use Rattle.sync_types.specs.declared.answers.Premise.{Premise}
 use Rattle.construction.specs.Plans.{Plan}
 use Rattle.plan_reader.specs.PlanPart.{whole_plan_of}
 use Rattle.plan_reader.specs.Skipped.{first_unskipped}
-use Rattle.pulse_plan.specs.Plans.{PulseNumbers}
-use Rattle.pulse_texts.specs.declared.premises.LinePremise.{LinePremise}
-use Rattle.pulse_texts.specs.PulsesPart.{whole_pulses_of}
+use Rattle.halving_plan.specs.Plans.{HalvingNumbers}
+use Rattle.halving_texts.specs.declared.premises.LinePremise.{LinePremise}
+use Rattle.halving_texts.specs.HalvingPart.{whole_halving_of}
 use Rattle.machines.specs.Laws.{IsSound}
 use Rattle.node_calls.specs.Machines.{machine_of}
 use Rattle.node_calls.specs.declared.any_machines.AnyMachine.{AnyMachine}
-use Rattle.node_calls.specs.declared.any_machines.AnyMachine.TheVariants.{Boosting, Pulses}
+use Rattle.node_calls.specs.declared.any_machines.AnyMachine.TheVariants.{Boosting, Halving}
 use Rattle.node_calls.specs.declared.errors.CallError.{CallError}
-use Rattle.node_calls.specs.Errors.{refused_at, pulses_refused_at}
+use Rattle.node_calls.specs.Errors.{refused_at, halving_refused_at}
 
 -- what follows an answer, if it is no error
 abbrev pub and_then : {A B : Type 0} → Result A CallError → (A → Result B CallError)
@@ -40,23 +40,23 @@ abbrev pub is_first : Option ℕ → (line : ℕ) → Bool
 is_first None line = true
 is_first (Some first) line = first == line
 
--- the counter of a text by what it is as a pulse plan: if its first line that counts is not that of
--- a pulse plan, the text is read as a plan
+-- the counter of a text by what it is as a halving plan: if its first line that counts is not that of
+-- a halving plan, the text is read as a plan
 abbrev pub counter_by : (first : Option ℕ) → (text : List ℕ)
-    → Result PulseNumbers (At LinePremise) → Result AnyMachine CallError
-counter_by first text (Ok plan) = Ok (Pulses plan)
+    → Result HalvingNumbers (At LinePremise) → Result AnyMachine CallError
+counter_by first text (Ok plan) = Ok (Halving plan)
 counter_by first text (Err at) =
-    if is_first first at.line then plan_counter text else Err (pulses_refused_at at)
+    if is_first first at.line then plan_counter text else Err (halving_refused_at at)
 
 abbrev pub counter_answer : (text : List ℕ) → Result AnyMachine CallError
-counter_answer text = counter_by (first_unskipped 1 (lines_of text)) text (whole_pulses_of text)
+counter_answer text = counter_by (first_unskipped 1 (lines_of text)) text (whole_halving_of text)
 
 -- Each text of a plan has the counter of that plan, of either construction, and the machine of each
 -- counter of a text is sound.
 pub record TextsHaveCounters : Type 0 where
   pub boosting : (text : List ℕ) (plan : Plan) → whole_plan_of text ≡ Ok plan
       → counter_answer text ≡ Ok (Boosting plan)
-  pub pulses : (text : List ℕ) (plan : PulseNumbers) → whole_pulses_of text ≡ Ok plan
-      → counter_answer text ≡ Ok (Pulses plan)
+  pub halving : (text : List ℕ) (plan : HalvingNumbers) → whole_halving_of text ≡ Ok plan
+      → counter_answer text ≡ Ok (Halving plan)
   pub sound : (text : List ℕ) (counter : AnyMachine) → counter_answer text ≡ Ok counter
       → IsSound (machine_of counter)

@@ -6,12 +6,12 @@ ghost use Rattle.node_calls.specs.Counters.{plan_answer, plan_counter, is_first,
 ghost use Rattle.node_calls.specs.Answers.{node_answer, bytes_answer, output_answer};
 
 use crate::{AnyMachine, CallError};
+use halving_plan::HalvingMachine;
+use halving_texts::{HalvingError, read_whole_halving};
 use machines::Machine;
 use plan_machine::PlanMachine;
 use plan_numbers::Plan;
 use plan_reader::{first_unskipped, read_whole_plan};
-use pulse_plan::PulseMachine;
-use pulse_texts::{PulsesError, read_whole_pulses};
 use std::alloc::Global;
 use sync_types::{NoMemory, NodeState};
 
@@ -42,22 +42,22 @@ fn is_first(first: Option<u64>, line: u64) -> bool
     }
 }
 
-/// The counter of a text, which is that of a pulse plan, or of a plan of levels over blocks, after
+/// The counter of a text, which is that of a halving plan, or of a plan of levels over blocks, after
 /// which only skipped lines stand.
 ///
-/// `PulsesRefused` is the first line that fails of a text whose first line that counts is that of a
-/// pulse plan, and `Refused` that of any other text, each with its first premise.
+/// `HalvingRefused` is the first line that fails of a text whose first line that counts is that of a
+/// halving plan, and `Refused` that of any other text, each with its first premise.
 pub fn counter_in(alloc: Global, text: &[u8]) -> Result<AnyMachine, CallError>
     ensures { Answers result (counter_answer text.now) }
 {
-    match read_whole_pulses(text) {
-        Ok(plan) => Ok(AnyMachine::Pulses(PulseMachine::new(alloc, plan)?)),
-        Err(PulsesError::NoMemory) => Err(CallError::NoMemory),
-        Err(PulsesError::Refused(refusal)) => {
+    match read_whole_halving(text) {
+        Ok(plan) => Ok(AnyMachine::Halving(HalvingMachine::new(alloc, plan)?)),
+        Err(HalvingError::NoMemory) => Err(CallError::NoMemory),
+        Err(HalvingError::Refused(refusal)) => {
             if is_first(first_unskipped(text, 1), refusal.line) {
                 plan_counter(alloc, text)
             } else {
-                Err(CallError::PulsesRefused(refusal))
+                Err(CallError::HalvingRefused(refusal))
             }
         }
     }
@@ -81,7 +81,7 @@ pub(crate) fn counter_with_node(
 
 /// How many bytes a state of node `id` has, at most 128.
 ///
-/// `PulsesRefused` and `Refused` come as in [`counter_in`], then `Node`.
+/// `HalvingRefused` and `Refused` come as in [`counter_in`], then `Node`.
 pub fn state_bytes(alloc: Global, text: &[u8], id: u32) -> Result<usize, CallError>
     ensures exact { Answers result (bytes_answer text.now id) }
     ensures most { IfOk result (λ bytes. bytes ≤ 128) }
@@ -104,7 +104,7 @@ fn shown_by<M: Machine>(alloc: Global, machine: &M, id: u32, state: &[u8]) -> Re
 
 /// What node `id` shows in a state, which has just so many bytes as its states have.
 ///
-/// `PulsesRefused` and `Refused` come as in [`counter_in`], then `Node`, then `Length`.
+/// `HalvingRefused` and `Refused` come as in [`counter_in`], then `Node`, then `Length`.
 pub fn output(alloc: Global, text: &[u8], id: u32, state: &[u8]) -> Result<u64, CallError>
     ensures { Answers result (output_answer text.now id state.now) }
 {

@@ -1,9 +1,9 @@
 ghost use Rattle.std.specs.Prelude.{◌≡◌};
 ghost use Rattle.node_calls.specs.declared.errors.CallError.TheVariants.{NoMemory};
-ghost use Rattle.node_calls.specs.Errors.{error_of, pulses_error_of};
+ghost use Rattle.node_calls.specs.Errors.{error_of, halving_error_of};
 
+use halving_texts::{HalvingError, HalvingRefusal};
 use plan_reader::{PlanError, PlanRefusal};
-use pulse_texts::{PulsesError, PulsesRefusal};
 use sync_types::NoMemory;
 use thiserror::Error;
 
@@ -13,9 +13,9 @@ pub enum CallError {
     /// The text is no accepted plan: its first line that fails.
     #[error("line {} of the plan fails the premise {:?}", .0.line, .0.premise)]
     Refused(PlanRefusal),
-    /// The text begins as a pulse plan, and is no accepted one: its first line that fails.
-    #[error("line {} of the pulses fails the premise {}", .0.line, .0.premise.word())]
-    PulsesRefused(PulsesRefusal),
+    /// The text begins as a halving plan, and is no accepted one: its first line that fails.
+    #[error("line {} of the halving plan fails the premise {}", .0.line, .0.premise.word())]
+    HalvingRefused(HalvingRefusal),
     /// The plan has no node of that id.
     #[error("no such node")]
     Node,
@@ -49,13 +49,13 @@ impl From<PlanError> for CallError {
     }
 }
 
-impl From<PulsesError> for CallError {
-    ghost from_gives = { λ error e. e ≡ pulses_error_of error };
+impl From<HalvingError> for CallError {
+    ghost from_gives = { λ error e. e ≡ halving_error_of error };
 
-    fn from(error: PulsesError) -> Self {
+    fn from(error: HalvingError) -> Self {
         match error {
-            PulsesError::Refused(refusal) => CallError::PulsesRefused(refusal),
-            PulsesError::NoMemory => CallError::NoMemory,
+            HalvingError::Refused(refusal) => CallError::HalvingRefused(refusal),
+            HalvingError::NoMemory => CallError::NoMemory,
         }
     }
 }

@@ -39,7 +39,7 @@ fn step_in<M: Machine>(
 /// puts the bytes of its new state in their place; answers how many packets these were. A state may
 /// have any contents; with no packet it is brought into range.
 ///
-/// `PulsesRefused` and `Refused` come as in [`counter_in`](crate::counter_in), then `Node`, then
+/// `HalvingRefused` and `Refused` come as in [`counter_in`](crate::counter_in), then `Node`, then
 /// `Length`, then `Cut` or `TooLong`. After an error the state is as it was.
 pub fn step(
     alloc: Global,

@@ -1,7 +1,7 @@
 //! The numbers of a plan of either construction.
 
+use crate::halving_groups::Group;
 use crate::plans::Plan;
-use crate::pulse_groups::Group;
 
 /// How many nodes there are, how many of them may be faulty, what they count by, and from which
 /// configuration on all correct ones count.
@@ -24,8 +24,8 @@ impl Numbers {
         }
     }
 
-    /// Those of a pulse plan.
-    pub fn of_pulses(plan: &Group) -> Numbers {
+    /// Those of a halving plan.
+    pub fn of_halving(plan: &Group) -> Numbers {
         Numbers {
             nodes: plan.nodes,
             faults: plan.faults,

@@ -1,17 +1,17 @@
 //! The words that play a script over a plan of either construction, most of which read a part
 //! between the two.
 
+use crate::halving_texts::read_halving;
 use crate::layers::Part;
 use crate::lines::Lines;
 use crate::numbers::Numbers;
 use crate::plan_texts::{read_plan, want_none_broken};
 use crate::plans::remainder;
-use crate::pulse_texts::read_pulses;
 use crate::refusals::Stop;
 use crate::script_texts::read_script;
 use crate::sizes::Sizes;
 use crate::spans::{Span, read_spans};
-use crate::{pulse_runs, runs};
+use crate::{halving_runs, runs};
 use std::alloc::Global;
 
 /// The most values that the registers of a layer may have.
@@ -189,12 +189,12 @@ pub fn play(alloc: Global, word: &str, lines: &mut Lines) -> Result<String, Stop
     Ok(runs::answer(alloc, &plan, &script, part)?)
 }
 
-/// What a word writes that plays a script over a pulse plan.
-pub fn play_pulses(alloc: Global, word: &str, lines: &mut Lines) -> Result<String, Stop> {
-    let mut plan = read_pulses(lines)?;
+/// What a word writes that plays a script over a halving plan.
+pub fn play_halving(alloc: Global, word: &str, lines: &mut Lines) -> Result<String, Stop> {
+    let mut plan = read_halving(lines)?;
     let mut parts = Parts::none(alloc);
-    let (part, registers, values) = parts.read(alloc, word, &Numbers::of_pulses(&plan), lines);
+    let (part, registers, values) = parts.read(alloc, word, &Numbers::of_halving(&plan), lines);
     plan.set_layer(registers, values);
-    let script = read_script(alloc, &Sizes::of_pulses(&plan), lines)?;
-    Ok(pulse_runs::answer(alloc, &plan, &script, part)?)
+    let script = read_script(alloc, &Sizes::of_halving(&plan), lines)?;
+    Ok(halving_runs::answer(alloc, &plan, &script, part)?)
 }

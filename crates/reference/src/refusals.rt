@@ -27,7 +27,7 @@ impl Refusal {
     /// What a rule of the part is called, and the exit code.
     fn kind(&self) -> (&'static str, u8) {
         match self.part {
-            "plan" | "pulses" => ("premise", 1),
+            "plan" | "halving" => ("premise", 1),
             "table" => ("cause", 4),
             _ => ("rule", 3),
         }

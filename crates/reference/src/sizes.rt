@@ -1,7 +1,7 @@
 //! What a script has to know of a plan.
 
+use crate::halving_groups::Group;
 use crate::plans::Plan;
-use crate::pulse_groups::Group;
 
 /// How many nodes a plan has at most.
 const MOST_NODES: usize = 256;
@@ -41,8 +41,8 @@ impl Sizes {
         sizes
     }
 
-    /// Those of a pulse plan.
-    pub fn of_pulses(plan: &Group) -> Sizes {
+    /// Those of a halving plan.
+    pub fn of_halving(plan: &Group) -> Sizes {
         let mut sizes = Sizes::new(plan.nodes, plan.faults);
         for node in 0..plan.nodes.min(MOST_NODES as u64) {
             sizes.put(node, plan.bytes(node));

@@ -7,8 +7,8 @@ use crate::pages::{Form, put_formed};
 use crate::reading::read_chart;
 use crate::{is_choice, is_sweep, read_choice, read_sweep};
 use edge_io::{MemSink, NoMemory, Sink, WriteFault, Writer};
+use halving_pictures::{halving_trace_of, is_halving_trace};
 use picture_parts::{ChartError, Figure};
-use pulse_pictures::{is_pulse_trace, pulse_trace_of};
 use std::alloc::Global;
 use thiserror::Error;
 use trace_pictures::{is_trace, trace_of};
@@ -94,8 +94,8 @@ fn draw_figure<K: Sink, F: Figure>(
 pub fn draw<K: Sink>(alloc: Global, text: &[u8], form: Form, sink: &mut K) -> Result<(), DrawError>
     ensures { Does result (DrawsAs form text.now) (K.told sink.old) (K.told sink.new) }
 {
-    if is_pulse_trace(text) {
-        let trace = pulse_trace_of(alloc, text)?;
+    if is_halving_trace(text) {
+        let trace = halving_trace_of(alloc, text)?;
         draw_figure(alloc, &trace, text, form, sink)
     } else if is_trace(alloc, text)? {
         let trace = trace_of(alloc, text)?;

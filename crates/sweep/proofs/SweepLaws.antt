@@ -20,15 +20,15 @@ use Rattle.round_runner.proofs.FirstLocked.{first_is_locked}
 use Rattle.outcomes.specs.Inputs.{Scripted, scripted_of}
 use Rattle.outcomes.specs.declared.refusals.Refusal.{Refusal}
 use Rattle.outcomes.proofs.ScriptedRead.{IsRead, scripted_read}
-use Rattle.pulse_plan.specs.Laws.{machine_in}
-use Rattle.pulse_runs.specs.RunInputs as pulses
-use Rattle.pulse_runs.specs.declared.errors.RunRefusal.{RunRefusal}
-use Rattle.pulse_runs.proofs.Scripts.{is_read}
+use Rattle.halving_plan.specs.Laws.{machine_in}
+use Rattle.halving_runs.specs.RunInputs as halving
+use Rattle.halving_runs.specs.declared.errors.RunRefusal.{RunRefusal}
+use Rattle.halving_runs.proofs.Scripts.{is_read}
 use Rattle.program_words.specs.Conduct.{and_then}
-use Rattle.sweep.specs.Inputs.{is_pulses, noise_sweep, swept_on_plan, swept_on_pulses}
+use Rattle.sweep.specs.Inputs.{is_halving, noise_sweep, swept_on_plan, swept_on_halving}
 use Rattle.sweep.specs.Keys.{key_of, keyed}
 use Rattle.sweep.specs.Laws.{EraLine, Firsts, CountsRuns, SaysRuns, first_on_plan, first_on_machine}
-use Rattle.sweep.specs.Laws.{SaysOfPlan, SaysOfPulses, SweepsCountRuns}
+use Rattle.sweep.specs.Laws.{SaysOfPlan, SaysOfHalving, SweepsCountRuns}
 use Rattle.sweep.specs.NumberRanges.{NumberRange}
 use Rattle.sweep.specs.declared.reasons.SweepReason.{SweepReason}
 use Rattle.sweep.specs.declared.reasons.SweepReason.TheVariants as reason
@@ -147,11 +147,11 @@ module _ (numbers : NumberRange) (input text : List ℕ) where
         (plan_counts read.script seeds_of for.for.whole read.plan);
   }
 
-  pulses_say : (read : Result pulses.Scripted RunRefusal) → pulses.scripted_of input ≡ read
-      → and_then (swept_on_pulses read) (noise_sweep numbers) ≡ Ok text
-      → SaysOfPulses numbers input text
-  pulses_say (Err refusal) is same = absurd (cc)
-  pulses_say (Ok read) is same =
+  halving_say : (read : Result halving.Scripted RunRefusal) → halving.scripted_of input ≡ read
+      → and_then (swept_on_halving read) (noise_sweep numbers) ≡ Ok text
+      → SaysOfHalving numbers input text
+  halving_say (Err refusal) is same = absurd (cc)
+  halving_say (Ok read) is same =
       let machine : Machine = machine_in read.plan in
       record {
         read = read;
@@ -163,15 +163,15 @@ module _ (numbers : NumberRange) (input text : List ℕ) where
       }
 
   input_says : (begins : Bool)
-      → and_then (cond begins (swept_on_pulses (pulses.scripted_of input))
+      → and_then (cond begins (swept_on_halving (halving.scripted_of input))
       (swept_on_plan (scripted_of input))) (noise_sweep numbers) ≡ Ok text
-      → SaysOfPlan numbers input text ⊎ SaysOfPulses numbers input text
-  input_says true same = inr (pulses_say (pulses.scripted_of input) refl same)
+      → SaysOfPlan numbers input text ⊎ SaysOfHalving numbers input text
+  input_says true same = inr (halving_say (halving.scripted_of input) refl same)
   input_says false same = inl (plan_says (scripted_of input) refl (scripted_read input) same)
 
 pub sweeps_count_runs : SweepsCountRuns
 sweeps_count_runs = record {
   plans = λ plan script seeds whole. plan_counts script seeds whole plan;
   machines = λ machine script seeds whole. machine_counts script seeds whole machine;
-  inputs = λ numbers input text same. input_says numbers input text (is_pulses input) same;
+  inputs = λ numbers input text same. input_says numbers input text (is_halving input) same;
 }

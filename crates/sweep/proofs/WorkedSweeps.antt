@@ -12,8 +12,8 @@ sweeps_are_spelled = record {
   key = refl;
   lines = refl;
   plan = refl;
-  pulses = refl;
+  halving = refl;
   single = refl;
-  single_pulses = refl;
+  single_halving = refl;
   silent = refl;
 }

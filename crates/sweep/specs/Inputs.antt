@@ -10,47 +10,47 @@ use Rattle.adversary_script.specs.NoiseSaid.{says_noise}
 use Rattle.outcomes.specs.Inputs.{Scripted, scripted_of}
 use Rattle.outcomes.specs.declared.refusals.Refusal.{Refusal}
 use Rattle.program_words.specs.Conduct.{and_then}
-use Rattle.pulse_plan.specs.Laws.{machine_in}
-use Rattle.pulse_runs.specs.RunInputs as pulses
-use Rattle.pulse_runs.specs.declared.errors.RunRefusal.{RunRefusal}
+use Rattle.halving_plan.specs.Laws.{machine_in}
+use Rattle.halving_runs.specs.RunInputs as halving
+use Rattle.halving_runs.specs.declared.errors.RunRefusal.{RunRefusal}
 use Rattle.sweep.specs.Sweeps.{Swept, on_plan, on_machine}
 use Rattle.sweep.specs.SweepTexts.{sweep_text}
 use Rattle.sweep.specs.NumberRanges.{NumberRange}
 use Rattle.sweep.specs.declared.reasons.SweepReason.{SweepReason}
 use Rattle.sweep.specs.declared.reasons.SweepReason.TheVariants as reason
 
--- the first line that counts is that of a pulse plan; a line of more than 4096 bytes counts
-abbrev pub begin_pulses : List (List ℕ) → Bool
-begin_pulses [] = false
-begin_pulses (line ∷ lines) =
-    if nat_lt 4096 (length line) || not (is_skipped line) then bytes_eq line (codes "pulses 1")
-    else begin_pulses lines
+-- the first line that counts is that of a halving plan; a line of more than 4096 bytes counts
+abbrev pub begin_halving : List (List ℕ) → Bool
+begin_halving [] = false
+begin_halving (line ∷ lines) =
+    if nat_lt 4096 (length line) || not (is_skipped line) then bytes_eq line (codes "halving 1")
+    else begin_halving lines
 
-abbrev pub is_pulses : (input : List ℕ) → Bool
-is_pulses input = begin_pulses (lines_of input)
+abbrev pub is_halving : (input : List ℕ) → Bool
+is_halving input = begin_halving (lines_of input)
 
 -- a plan and a script, or the refusal of one of their lines
 abbrev pub boosting_read : Result Scripted Refusal → Result Scripted SweepReason
 boosting_read (Ok scripted) = Ok scripted
 boosting_read (Err refusal) = Err (reason.Boosting refusal)
 
-abbrev pub pulses_read : Result pulses.Scripted RunRefusal → Result pulses.Scripted SweepReason
-pulses_read (Ok scripted) = Ok scripted
-pulses_read (Err refusal) = Err (reason.Pulses refusal)
+abbrev pub halving_read : Result halving.Scripted RunRefusal → Result halving.Scripted SweepReason
+halving_read (Ok scripted) = Ok scripted
+halving_read (Err refusal) = Err (reason.Halving refusal)
 
--- a script on a plan, and on a pulse plan
+-- a script on a plan, and on a halving plan
 abbrev pub swept_on_plan : Result Scripted Refusal → Result Swept SweepReason
 swept_on_plan read =
     and_then (boosting_read read) (λ scripted. Ok (on_plan scripted.plan scripted.script))
 
-abbrev pub swept_on_pulses : Result pulses.Scripted RunRefusal → Result Swept SweepReason
-swept_on_pulses read =
-    and_then (pulses_read read)
+abbrev pub swept_on_halving : Result halving.Scripted RunRefusal → Result Swept SweepReason
+swept_on_halving read =
+    and_then (halving_read read)
     (λ scripted. Ok (on_machine (machine_in scripted.plan) scripted.script))
 
 abbrev pub swept_of : (input : List ℕ) → Result Swept SweepReason
 swept_of input =
-    if is_pulses input then swept_on_pulses (pulses.scripted_of input)
+    if is_halving input then swept_on_halving (halving.scripted_of input)
     else swept_on_plan (scripted_of input)
 
 -- the text of the sweep of a script on a counter, if the script says noise

@@ -15,8 +15,8 @@ use Rattle.round_runner.specs.Locks.{IsFirstLocked}
 use Rattle.round_runner.specs.Played.{played_at}
 use Rattle.sweep.specs.Keys.{keyed}
 use Rattle.outcomes.specs.Inputs.{Scripted, scripted_of}
-use Rattle.pulse_plan.specs.Laws.{machine_in}
-use Rattle.pulse_runs.specs.RunInputs as pulses
+use Rattle.halving_plan.specs.Laws.{machine_in}
+use Rattle.halving_runs.specs.RunInputs as halving
 use Rattle.sweep.specs.Sweeps.{on_plan, on_machine}
 use Rattle.sweep.specs.SweepTexts.{bound_line, found_line, sweep_text}
 use Rattle.sweep.specs.Inputs.{sweep_of}
@@ -74,16 +74,16 @@ first_on_machine machine script j found =
     script.rounds found
 
 -- A text says so of the plan and the script that an input is, over numbers from the first on, or of
--- the pulse plan and the script.
+-- the halving plan and the script.
 pub record SaysOfPlan (numbers : NumberRange) (input text : List ℕ) : Type 0 where
   pub read : Scripted
   pub is : scripted_of input ≡ Ok read
   pub says : SaysRuns (plan_bound read.plan) (first_on_plan read.plan) read.script
       (range_with_len numbers.first numbers.count) text
 
-pub record SaysOfPulses (numbers : NumberRange) (input text : List ℕ) : Type 0 where
-  pub read : pulses.Scripted
-  pub is : pulses.scripted_of input ≡ Ok read
+pub record SaysOfHalving (numbers : NumberRange) (input text : List ℕ) : Type 0 where
+  pub read : halving.Scripted
+  pub is : halving.scripted_of input ≡ Ok read
   pub says : SaysRuns (machine_in read.plan).bound (first_on_machine (machine_in read.plan))
       read.script (range_with_len numbers.first numbers.count) text
 
@@ -96,4 +96,4 @@ pub record SweepsCountRuns : Type 0 where
       → SaysRuns machine.bound (first_on_machine machine) script seeds
       (sweep_text (on_machine machine script) seeds)
   pub inputs : (numbers : NumberRange) (input text : List ℕ) → sweep_of numbers input ≡ Ok text
-      → SaysOfPlan numbers input text ⊎ SaysOfPulses numbers input text
+      → SaysOfPlan numbers input text ⊎ SaysOfHalving numbers input text

@@ -5,7 +5,7 @@ use Rattle.sync_types.specs.States.{zero_register}
 use Rattle.construction.specs.Plans.{Plan}
 use Rattle.machines.specs.Machines.{Machine}
 use Rattle.adversary_script.specs.Scripts.{Script, empty_script}
-use Rattle.pulse_plan.specs.Laws.{machine_in}
+use Rattle.halving_plan.specs.Laws.{machine_in}
 use Rattle.sweep.specs.Keys.{key_of}
 use Rattle.sweep.specs.Sweeps.{Locks, on_plan, on_machine}
 use Rattle.sweep.specs.SweepTexts.{sweep_text}
@@ -28,7 +28,7 @@ made_up script (suc j) = if slice_index script.key 7 == 6 then Some 3 else Some 
 -- Four nodes, of which node 3 is faulty. They start with zeros, and the last configuration is an
 -- era of its own, which puts the others into states whose first register is marked.
 abbrev pub put_at_last : Script
-put_at_last = record (empty_script 4 (record { depth = 4; fields = [] })) {
+put_at_last = record (empty_script 4 (record { depth = 2; fields = [] })) {
   faulty = 3 ∷ [];
   eras = record {
     first = 1;
@@ -37,14 +37,14 @@ put_at_last = record (empty_script 4 (record { depth = 4; fields = [] })) {
       node = v;
       state = record {
         x = 0;
-        registers = record { a = Some 4; d = true } ∷ replicate 3 zero_register;
+        registers = record { a = Some 4; d = true } ∷ replicate 1 zero_register;
       };
     }) (0 ∷ 1 ∷ 2 ∷ []);
   } ∷ [];
   rounds = 1;
 }
 
--- four nodes that count modulo 10, of a plan with one level of three blocks, and of a pulse plan
+-- four nodes that count modulo 10, of a plan with one level of three blocks, and of a halving plan
 abbrev pub four : Plan
 four = record {
   version = 2;
@@ -52,8 +52,8 @@ four = record {
   levels = record { blocks = 3; faults = 1; modulus = 10; spares = 1 } ∷ [];
 }
 
-abbrev pub four_pulses : Machine
-four_pulses = machine_in (record { nodes = 4; faults = 1; modulus = 10 })
+abbrev pub four_halving : Machine
+four_halving = machine_in (record { nodes = 4; faults = 1; modulus = 10 })
 
 -- what an input of one node that starts in noise, in two eras, has behind its plan
 abbrev pub one_node : List ℕ
@@ -69,18 +69,18 @@ at_once = codes "bound 0\nera 0 locked 0 runs 3 seed 5\nera 2 locked 2 runs 3 se
 -- has none.
 pub record SweepsAreSpelled : Type 0 where
   pub key : key_of 258 ≡ replicate 6 0 ++ 1 ∷ 2 ∷ replicate 24 0
-  pub lines : sweep_text (record { bound = 41; locks = made_up; script = two_eras })
+  pub lines : sweep_text (record { bound = 16; locks = made_up; script = two_eras })
       (5 ∷ 6 ∷ 7 ∷ [])
-      ≡ codes "bound 41\nera 0 locked 2 runs 2 seed 5\nera 0 locked none runs 1 seed 6\n"
+      ≡ codes "bound 16\nera 0 locked 2 runs 2 seed 5\nera 0 locked none runs 1 seed 6\n"
       ++ codes "era 3 locked 3 runs 1 seed 6\nera 3 locked 4 runs 2 seed 5\n"
   pub plan : sweep_text (on_plan four put_at_last) (8 ∷ 9 ∷ [])
       ≡ codes "bound 576\nera 0 locked none runs 2 seed 8\nera 1 locked 1 runs 2 seed 8\n"
-  pub pulses : sweep_text (on_machine four_pulses put_at_last) (8 ∷ 9 ∷ [])
-      ≡ codes "bound 41\nera 0 locked none runs 2 seed 8\nera 1 locked 1 runs 2 seed 8\n"
+  pub halving : sweep_text (on_machine four_halving put_at_last) (8 ∷ 9 ∷ [])
+      ≡ codes "bound 16\nera 0 locked none runs 2 seed 8\nera 1 locked 1 runs 2 seed 8\n"
   pub single : sweep_of (record { first = 5; count = 3 })
       (codes "plan 1\nbase 3\nend\n" ++ one_node) ≡ Ok at_once
-  pub single_pulses : sweep_of (record { first = 5; count = 3 })
-      (codes "pulses 1\ngroup 1 0 3\nend\n" ++ one_node) ≡ Ok at_once
+  pub single_halving : sweep_of (record { first = 5; count = 3 })
+      (codes "halving 1\ngroup 1 0 3\nend\n" ++ one_node) ≡ Ok at_once
   pub silent : sweep_of (record { first = 5; count = 3 })
       (codes "plan 1\nbase 3\nend\nscript 1\nfaulty\nstart zero\nrounds 3\nshow 0 3\nend\n")
       ≡ Err reason.NoNoise

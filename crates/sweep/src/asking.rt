@@ -21,7 +21,7 @@ use std::alloc::Global;
 /// How the program is used.
 const HELP: &[u8] = b"usage: sweep FIRST COUNT\n\
     Reads a plan and a script from standard input, as counterlab run does,\n\
-    or a pulse plan and a script, as pulselab run does,\n\
+    or a halving plan and a script, as halvinglab run does,\n\
     plays the script with the keys of COUNT numbers from FIRST on,\n\
     and writes the plan's bound, and for each era how many runs first lock\n\
     with which configuration, and the least number of these. The key of a\n\
@@ -42,7 +42,7 @@ pub fn answer<S: Source, K: Sink, E: Sink>(
     progress: &mut Progress<E>,
 ) -> Result<(), SweepError>
     // What was read and written, by how it ended: of a sweep, the text that is defined for the
-    // plan or the pulse plan, the script and the numbers, or the refusal of the first line that
+    // plan or the halving plan, the script and the numbers, or the refusal of the first line that
     // fails.
     ensures asked { DoesAsked (map string_bytes words.now) result
         (S.left source.old) (S.left source.new) (S.faults source.old) (S.faults source.new)
@@ -69,7 +69,7 @@ pub fn answer<S: Source, K: Sink, E: Sink>(
     sweeps_are_spelled();
     match asked_by(words, request_of(words)) {
         Asked::Help => Ok(put_all(sink, HELP)?),
-        Asked::Version => Ok(put_all(sink, b"sweep 1.0\n")?),
+        Asked::Version => Ok(put_all(sink, b"sweep 2.0\n")?),
         Asked::Request(numbers) => sweep_input(alloc, numbers, source, sink, progress),
         Asked::Nothing => Err(ProgramError::Usage),
     }

@@ -4,14 +4,14 @@ ghost use Rattle.std.specs.Prelude.{◌≡◌, IfErr, IfOk, IsErrOf};
 ghost use Rattle.answers.specs.ScriptedRuns.{IsScriptedRun};
 ghost use Rattle.outcomes.specs.Inputs.{scripted_of};
 ghost use Rattle.program_words.specs.Conduct.{Answers, FailsAs, and_then};
-ghost use Rattle.pulse_runs.specs.Readings.{IsReadAs};
-ghost use Rattle.pulse_runs.specs.RunInputs as pulses;
+ghost use Rattle.halving_runs.specs.Readings.{IsReadAs};
+ghost use Rattle.halving_runs.specs.RunInputs as halving;
 ghost use Rattle.sweep.specs.Conduct.{SweepsInput};
-ghost use Rattle.sweep.specs.Inputs.{boosting_read, noise_sweep, pulses_read, sweep_of};
-ghost use Rattle.sweep.specs.Inputs.{swept_on_plan, swept_on_pulses};
+ghost use Rattle.sweep.specs.Inputs.{boosting_read, noise_sweep, halving_read, sweep_of};
+ghost use Rattle.sweep.specs.Inputs.{swept_on_plan, swept_on_halving};
 ghost use Rattle.sweep.specs.Progress.{Says};
 
-use crate::inputs::is_pulses;
+use crate::inputs::is_halving;
 use crate::progress::Progress;
 use crate::reasons::{SweepError, SweepReason};
 use crate::requests::Numbers;
@@ -21,11 +21,11 @@ use adversary_script::Script;
 use answers::Unanswered;
 use counter_core::NoOverlay;
 use edge_io::{Sink, Source, read_all};
+use halving_plan::HalvingMachine;
+use halving_runs::PlayError;
 use machine_runner::Runner;
 use plan_numbers::Plan;
 use program_words::ProgramError;
-use pulse_plan::PulseMachine;
-use pulse_runs::PlayError;
 use round_runner::Runner as BoostingRunner;
 use state_codec::StateShape;
 use std::alloc::Global;
@@ -89,27 +89,27 @@ fn sweep_on_plan<K: Sink, E: Sink>(
     sweep_noise(alloc, &mut runner, numbers, sink, progress)
 }
 
-/// The machine of the pulse plan of an input, the shape of its states, and the script.
-fn read_pulses(
+/// The machine of the halving plan of an input, the shape of its states, and the script.
+fn read_halving(
     alloc: Global,
     input: &[u8],
-) -> Result<(PulseMachine, StateShape, Script), SweepError>
+) -> Result<(HalvingMachine, StateShape, Script), SweepError>
     ensures read { IfOk result (IsReadAs input.now) }
-    ensures fails { IfErr result (FailsAs (pulses_read (pulses.scripted_of input.now))) }
+    ensures fails { IfErr result (FailsAs (halving_read (halving.scripted_of input.now))) }
 {
-    match pulse_runs::read_scripted(alloc, input) {
+    match halving_runs::read_scripted(alloc, input) {
         Ok(read) => Ok(read),
         Err(PlayError::Refused(refusal)) => {
-            Err(ProgramError::Refused(SweepReason::Pulses(refusal)))
+            Err(ProgramError::Refused(SweepReason::Halving(refusal)))
         }
         Err(PlayError::NoMemory) => Err(ProgramError::NoMemory),
         Err(PlayError::WriteFault) => Err(ProgramError::WriteFault),
     }
 }
 
-/// Writes the sweep of an input that is a pulse plan and a script.
+/// Writes the sweep of an input that is a halving plan and a script.
 #[tactic(auto, using(crate::proofs::Said::says_nothing))]
-fn sweep_on_pulses<K: Sink, E: Sink>(
+fn sweep_on_halving<K: Sink, E: Sink>(
     alloc: Global,
     numbers: Numbers,
     input: &[u8],
@@ -117,12 +117,12 @@ fn sweep_on_pulses<K: Sink, E: Sink>(
     progress: &mut Progress<E>,
 ) -> Result<(), SweepError>
     ensures answers { Answers
-        (and_then (swept_on_pulses (pulses.scripted_of input.now)) (noise_sweep numbers)) result
+        (and_then (swept_on_halving (halving.scripted_of input.now)) (noise_sweep numbers)) result
         (K.told sink.old) (K.told sink.new) }
     ensures progress { Says progress.old.name progress.old.is_on numbers.count
         (E.told progress.old.sink) (E.told progress.new.sink) }
 {
-    let (machine, shape, script) = read_pulses(alloc, input)?;
+    let (machine, shape, script) = read_halving(alloc, input)?;
     let mut runner = Runner::new(alloc, &machine, shape, script)?;
     sweep_noise(alloc, &mut runner, numbers, sink, progress)
 }
@@ -140,18 +140,18 @@ fn sweep_text<K: Sink, E: Sink>(
     ensures progress { Says progress.old.name progress.old.is_on numbers.count
         (E.told progress.old.sink) (E.told progress.new.sink) }
 {
-    if is_pulses(input) {
-        sweep_on_pulses(alloc, numbers, input, sink, progress)
+    if is_halving(input) {
+        sweep_on_halving(alloc, numbers, input, sink, progress)
     } else {
         sweep_on_plan(alloc, numbers, input, sink, progress)
     }
 }
 
-/// Reads a plan or a pulse plan, and a script, plays the script with the key of each of these
+/// Reads a plan or a halving plan, and a script, plays the script with the key of each of these
 /// numbers in place of its own, and writes the plan's bound and how soon the eras lock.
 ///
-/// The whole source is read first, at most 2^20 bytes. It is a pulse plan exactly if its first line
-/// that counts is that of one; then `Pulses` comes exactly if `pulselab run` refuses the input, and
+/// The whole source is read first, at most 2^20 bytes. It is a halving plan exactly if its first line
+/// that counts is that of one; then `Halving` comes exactly if `halvinglab run` refuses the input, and
 /// else `Boosting` exactly if `counterlab run` does. `NoNoise` comes if the script says no noise;
 /// `TooLong` only if the byte after the limit was there. `ReadFault` and `WriteFault` come only if
 /// the source, before its end, or the sink counted a fault, and `NoMemory` if memory was refused.

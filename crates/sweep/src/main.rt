@@ -1,13 +1,13 @@
 //! Writes how soon a script locks, over many keys of its noise. `sweep FIRST COUNT` reads a plan
-//! and a script from standard input, as `counterlab run` does, or a pulse plan and a script, as
-//! `pulselab run` does, plays the script with COUNT keys, those of the numbers from FIRST on, and
+//! and a script from standard input, as `counterlab run` does, or a halving plan and a script, as
+//! `halvinglab run` does, plays the script with COUNT keys, those of the numbers from FIRST on, and
 //! writes the plan's bound, and for each era a line for each first locked configuration that
 //! occurs, with how many runs have it and the least number of these. The key of a number is the
 //! number as 16 hex digits, and then 48 zeros.
 //!
 //! `--help` and `--version` write what they say. Other words are answered by one line of usage on
 //! standard error, and what is refused by one line there. The exit codes are those of `counterlab`
-//! and `pulselab`. If standard error is a terminal, a line there says how many runs were played; it
+//! and `halvinglab`. If standard error is a terminal, a line there says how many runs were played; it
 //! is wiped before the sweep is written.
 //!
 //! What is read and written is proved, of [`asking::answer`], [`program_words::put_error`] and the

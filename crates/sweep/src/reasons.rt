@@ -1,15 +1,15 @@
 use edge_io::{Sink, WriteFault, put_all};
+use halving_runs::RunRefusal;
 use outcomes::{Refusal, put_refusal};
 use program_words::{ProgramError, Reason, TOO_LONG};
-use pulse_runs::RunRefusal;
 
 /// Why there is no sweep of an input.
 #[derive(Clone, Copy, Debug, PartialEq, Eq)]
 pub enum SweepReason {
     /// The input is refused, as `counterlab run` refuses it.
     Boosting(Refusal),
-    /// The input begins with a pulse plan, and is refused, as `pulselab run` refuses it.
-    Pulses(RunRefusal),
+    /// The input begins with a halving plan, and is refused, as `halvinglab run` refuses it.
+    Halving(RunRefusal),
     /// The script says no noise, so all runs would be one.
     NoNoise,
 }
@@ -43,7 +43,7 @@ impl Reason for SweepReason {
     fn code(&self) -> u8 {
         match *self {
             SweepReason::Boosting(refusal) => refusal.status().code(),
-            SweepReason::Pulses(refusal) => refusal.code(),
+            SweepReason::Halving(refusal) => refusal.code(),
             SweepReason::NoNoise => SCRIPT_REFUSED,
         }
     }
@@ -51,7 +51,7 @@ impl Reason for SweepReason {
     fn put_line<K: Sink>(&self, sink: &mut K) -> Result<(), WriteFault> {
         match *self {
             SweepReason::Boosting(refusal) => put_refusal(sink, refusal),
-            SweepReason::Pulses(refusal) => pulse_runs::put_refusal(sink, refusal),
+            SweepReason::Halving(refusal) => halving_runs::put_refusal(sink, refusal),
             SweepReason::NoNoise => put_all(
                 sink,
                 b"refused script: it says no noise, so all runs would be one\n",

@@ -4,14 +4,14 @@ use Rattle.sync_types.specs.States.{State}
 use Rattle.adversary_script.specs.Scripts.{Script}
 use Rattle.machine_runner.specs.Hearing.{HasRoom}
 use Rattle.machine_runner.specs.Laws.{IsReadFor}
-use Rattle.pulse_plan.specs.Groups.{whole_of}
-use Rattle.pulse_plan.specs.Laws.{machine_in}
-use Rattle.pulse_plan.specs.Plans.{PulseNumbers, IsAccepted}
-use Rattle.pulse_plan.proofs.Sound.{nodes_are}
+use Rattle.halving_plan.specs.Groups.{whole_of}
+use Rattle.halving_plan.specs.Laws.{machine_in}
+use Rattle.halving_plan.specs.Plans.{HalvingNumbers, IsAccepted}
+use Rattle.halving_plan.proofs.Sound.{nodes_are}
 use Rattle.trace.specs.declared.views.View.{View}
 use Rattle.trace.specs.Around.{IsAround}
 
-pub whole_around : (plan given : PulseNumbers) (script : Script) (view : View) (heard : List State)
+pub whole_around : (plan given : HalvingNumbers) (script : Script) (view : View) (heard : List State)
     → given ≡ plan → IsAccepted plan → IsReadFor (machine_in plan) script
     → view.heading.node < plan.nodes → HasRoom script view.config.now → HasRoom script heard
     → IsAround (whole_of given) view heard
@@ -20,7 +20,7 @@ whole_around plan given script view heard is accepted read node config hears =
     let same = nodes_are plan accepted in
     let depth = read.shape.depth in
     let size = config.size in
-    subst (λ (p : PulseNumbers). IsAround (whole_of p) view heard) (sym is) (record {
+    subst (λ (p : HalvingNumbers). IsAround (whole_of p) view heard) (sym is) (record {
       first = omega arith;
       last = omega (arith, node);
       within = omega (arith, size, nodes, same);

@@ -1,9 +1,9 @@
 -- What was counted of what is heard is the part of the line that is defined.
 use Rattle.std.proofs.Common.{◌≡◌, ℕ, ◌<◌, List, Option, sym, ap, ap₂, ◌∙◌}
 use Rattle.counting.specs.Values.{count_of, least_above}
-use Rattle.pulse_plan.specs.LevelStates.{LevelState, says_left, says_right, values_of}
-use Rattle.pulse_plan.specs.Groups.{PulseGroup, sizes_of}
-use Rattle.pulse_plan.proofs.Halves.{both_faults}
+use Rattle.halving_plan.specs.LevelStates.{LevelState, says_left, says_right, values_of}
+use Rattle.halving_plan.specs.Groups.{HalvingGroup, sizes_of}
+use Rattle.halving_plan.proofs.Halves.{both_faults}
 use Rattle.trace.specs.declared.counted.HeardCounts.{HeardCounts}
 use Rattle.trace.specs.Counted.{counted_part}
 use Rattle.trace.specs.GroupTexts.{heard_part}
@@ -27,7 +27,7 @@ said_is f own states said left right same least =
     ∙ ap₂ (λ (a : ℕ) (b : Option ℕ).
     let s : HeardCounts = record (said_of f own states) { same = a; least = b } in s) same least
 
-pub counted_is : (group : PulseGroup) (own : LevelState) (states : List LevelState)
+pub counted_is : (group : HalvingGroup) (own : LevelState) (states : List LevelState)
     (said : HeardCounts)
     → 0 < group.faults → said.left ≡ says_left states → said.right ≡ says_right states
     → said.same ≡ count_of (values_of states) own.register.a

@@ -5,10 +5,10 @@ use Rattle.std.proofs.Common.{◌∷◌, ◌++◌, Option, Some, None, refl, sym
 use Rattle.std.specs.Prelude.{nat_eq, nat_lt, if◌then◌else◌, IfSome}
 use Rattle.std.specs.List.{flat_map}
 use Rattle.std.proofs.lemmas.Bool.{eq-eqb, ne_eqb}
-use Rattle.pulse_plan.specs.Groups.{PulseGroup, half_in, left_of, right_of}
+use Rattle.halving_plan.specs.Groups.{HalvingGroup, half_in, left_of, right_of}
 use Rattle.trace.specs.Groups.{in_half, groups_within, groups_of}
 
-by_tests : (a b : Bool) (left right : PulseGroup) (most : ℕ) → left.faults ≤ most
+by_tests : (a b : Bool) (left right : HalvingGroup) (most : ℕ) → left.faults ≤ most
     → right.faults ≤ most
     → IfSome (if a then Some left else if b then Some right else None) (λ h. h.faults ≤ most)
 by_tests true b left right most l r = l
@@ -16,24 +16,24 @@ by_tests false true left right most l r = r
 by_tests false false left right most l r = tt
 
 -- a half tolerates fewer faults
-half_fewer : (group : PulseGroup) (v : ℕ)
+half_fewer : (group : HalvingGroup) (v : ℕ)
     → IfSome (half_in group v) (λ h. h.faults ≤ group.faults - 1)
 half_fewer group v =
     by_tests (nat_lt v (right_of group).first)
     (nat_lt v ((right_of group).first + (right_of group).nodes)) (left_of group) (right_of group)
     (group.faults - 1) (omega arith) (omega arith)
 
-half_same : (one other : PulseGroup → List PulseGroup) (o : Option PulseGroup)
+half_same : (one other : HalvingGroup → List HalvingGroup) (o : Option HalvingGroup)
     → IfSome o (λ h. one h ≡ other h) → in_half o one ≡ in_half o other
 half_same one other None same = refl
 half_same one other (Some half) same = same
 
-one_within : (most : ℕ) (o : Option PulseGroup) (P : PulseGroup → Type 0)
-    → IfSome o (λ h. h.faults ≤ most) → ((h : PulseGroup) → h.faults ≤ most → P h) → IfSome o P
+one_within : (most : ℕ) (o : Option HalvingGroup) (P : HalvingGroup → Type 0)
+    → IfSome o (λ h. h.faults ≤ most) → ((h : HalvingGroup) → h.faults ≤ most → P h) → IfSome o P
 one_within most None P few all = tt
 one_within most (Some half) P few all = all half few
 
-none_within : (m : ℕ) (group : PulseGroup) (v : ℕ) → group.faults ≡ 0
+none_within : (m : ℕ) (group : HalvingGroup) (v : ℕ) → group.faults ≡ 0
     → groups_within m group v ≡ []
 none_within zero group v e = refl
 none_within (suc m) group v e =
@@ -42,21 +42,21 @@ none_within (suc m) group v e =
     (λ half. groups_within m half v)) none
 
 -- more than there are faults are not needed
-pub enough : (n m : ℕ) (group : PulseGroup) (v : ℕ) → group.faults ≤ n → group.faults ≤ m
+pub enough : (n m : ℕ) (group : HalvingGroup) (v : ℕ) → group.faults ≤ n → group.faults ≤ m
     → groups_within n group v ≡ groups_within m group v
 enough zero m group v a b = sym (none_within m group v (omega arith))
 enough (suc n) zero group v a b = none_within (suc n) group v (omega arith)
 enough (suc n) (suc m) group v a b =
-    ap (λ (rest : List PulseGroup). if nat_eq group.faults 0 then [] else group ∷ rest)
+    ap (λ (rest : List HalvingGroup). if nat_eq group.faults 0 then [] else group ∷ rest)
     (half_same (λ half. groups_within n half v) (λ half. groups_within m half v) (half_in group v)
     (one_within (group.faults - 1) (half_in group v)
     (λ half. groups_within n half v ≡ groups_within m half v) (half_fewer group v)
     (λ half few. enough n m half v (omega (arith, few, a)) (omega (arith, few, b)))))
 
-pub no_groups : (group : PulseGroup) (v : ℕ) → group.faults ≡ 0 → groups_of group v ≡ []
+pub no_groups : (group : HalvingGroup) (v : ℕ) → group.faults ≡ 0 → groups_of group v ≡ []
 no_groups group v e = none_within group.faults group v e
 
-some_within : (k : ℕ) (group : PulseGroup) (v : ℕ) → 0 < group.faults
+some_within : (k : ℕ) (group : HalvingGroup) (v : ℕ) → 0 < group.faults
     → groups_within (suc k) group v
     ≡ group ∷ in_half (half_in group v) (λ half. groups_within k half v)
 some_within k group v some =
@@ -64,13 +64,13 @@ some_within k group v some =
     ap (λ (b : Bool). if b then [] else group ∷ in_half (half_in group v)
     (λ half. groups_within k half v)) other
 
-pub groups_are : (group : PulseGroup) (v : ℕ) → 0 < group.faults
+pub groups_are : (group : HalvingGroup) (v : ℕ) → 0 < group.faults
     → groups_of group v ≡ group ∷ in_half (half_in group v) (λ half. groups_of half v)
 groups_are group v some =
     let k = group.faults - 1 in
     enough group.faults (suc k) group v (omega arith) (omega arith)
     ∙ (some_within k group v some
-    ∙ ap (λ (rest : List PulseGroup). group ∷ rest)
+    ∙ ap (λ (rest : List HalvingGroup). group ∷ rest)
     (half_same (λ half. groups_within k half v) (λ half. groups_of half v) (half_in group v)
     (one_within k (half_in group v) (λ half. groups_within k half v ≡ groups_of half v)
     (half_fewer group v)
@@ -78,17 +78,17 @@ groups_are group v some =
 
 -- ---- their lines
 
-module _ (line : PulseGroup → List ℕ) (group : PulseGroup) (v : ℕ) (some : 0 < group.faults) where
-  pub lines_in_half : (half : PulseGroup) → Some half ≡ half_in group v
+module _ (line : HalvingGroup → List ℕ) (group : HalvingGroup) (v : ℕ) (some : 0 < group.faults) where
+  pub lines_in_half : (half : HalvingGroup) → Some half ≡ half_in group v
       → line group ++ flat_map line (groups_of half v) ≡ flat_map line (groups_of group v)
   lines_in_half half is =
-      ap (λ (o : Option PulseGroup). line group ++ flat_map line
+      ap (λ (o : Option HalvingGroup). line group ++ flat_map line
       (in_half o (λ half. groups_of half v))) is
       ∙ ap (flat_map line) (sym (groups_are group v some))
 
   pub lines_of_spare : None ≡ half_in group v
       → line group ++ [] ≡ flat_map line (groups_of group v)
   lines_of_spare is =
-      ap (λ (o : Option PulseGroup). line group ++ flat_map line
+      ap (λ (o : Option HalvingGroup). line group ++ flat_map line
       (in_half o (λ half. groups_of half v))) is
       ∙ ap (flat_map line) (sym (groups_are group v some))

@@ -1,11 +1,11 @@
 mod NamedNodes
-mod PulsesTraced
+mod HalvingTraced
 mod Traced
 pub mod Around
 pub mod Counts
 pub mod GroupDescent
-pub mod PulseHearing
-pub mod PulseTraced
+pub mod HalvingHearing
+pub mod HalvingNodesTraced
 pub mod GroupRegisters
 pub mod WordsSoFar
 pub mod Hearing
@@ -14,5 +14,5 @@ pub mod BoostingTraced
 pub mod LockWords
 pub mod TextParts
 pub mod LocksTold
-pub mod PulseLocksTold
+pub mod HalvingLocksTold
 pub mod WorkedTraces

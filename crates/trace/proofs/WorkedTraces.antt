@@ -11,7 +11,7 @@ pub traces_are_spelled : TracesAreSpelled
 unfolding digits width script_for start_of lie_of moduli_of
 traces_are_spelled = record {
   boosting = λ shape. refl;
-  pulses = λ shape. refl;
+  halving = λ shape. refl;
   twelve = refl;
   seven = refl;
   named = refl;

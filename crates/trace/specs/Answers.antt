@@ -7,10 +7,10 @@ use Rattle.plan_reader.specs.Skipped.{first_unskipped}
 use Rattle.outcomes.specs.declared.refusals.Refusal.{Refusal}
 use Rattle.outcomes.specs.Inputs.{Scripted, scripted_of}
 use Rattle.program_words.specs.Conduct.{and_then}
-use Rattle.pulse_runs.specs.declared.errors.RunRefusal.{RunRefusal}
-use Rattle.pulse_runs.specs.declared.errors.RunRefusal.TheVariants as refusal
-use Rattle.pulse_runs.specs.RunInputs as pulses
-use Rattle.trace.specs.PulseTraceTexts as pulse_texts
+use Rattle.halving_runs.specs.declared.errors.RunRefusal.{RunRefusal}
+use Rattle.halving_runs.specs.declared.errors.RunRefusal.TheVariants as refusal
+use Rattle.halving_runs.specs.RunInputs as halving
+use Rattle.trace.specs.HalvingTraceTexts as halving_texts
 use Rattle.trace.specs.Wanted.{Wanted}
 use Rattle.trace.specs.TraceTexts.{trace_text}
 use Rattle.trace.specs.Names.{are_nodes, named_nodes}
@@ -22,7 +22,7 @@ abbrev pub is_first : Option ℕ → (line : ℕ) → Bool
 is_first None line = true
 is_first (Some first) line = first == line
 
--- it is refused as a pulse plan for its first line that counts
+-- it is refused as a halving plan for its first line that counts
 abbrev pub fails_at_first : Option ℕ → RunRefusal → Bool
 fails_at_first first (refusal.Plan line premise) = is_first first line
 fails_at_first first (refusal.Part part line rule) = false
@@ -45,22 +45,22 @@ module _ (want : Wanted) (words : List (List ℕ)) where
   abbrev pub boosting_trace_or : Result Scripted Refusal → Result (List ℕ) TraceReason
   boosting_trace_or read = and_then (boosting_read read) boosting_trace
 
-  -- and of a pulse plan and a script
-  abbrev pub pulses_trace : pulses.Scripted → Result (List ℕ) TraceReason
-  pulses_trace s =
+  -- and of a halving plan and a script
+  abbrev pub halving_trace : halving.Scripted → Result (List ℕ) TraceReason
+  halving_trace s =
       if nat_lt s.script.rounds want.last then Err reason.NotPlayed
       else if not (are_nodes words s.plan.nodes) then Err reason.NoNode
-      else Ok (pulse_texts.trace_text s.plan s.script (named_nodes words s.plan.nodes) want.first
+      else Ok (halving_texts.trace_text s.plan s.script (named_nodes words s.plan.nodes) want.first
       want.last)
 
-  -- By what an input is as a pulse plan and a script: if its first line that counts is not that of
-  -- a pulse plan, the input is read as a boosting plan and a script.
+  -- By what an input is as a halving plan and a script: if its first line that counts is not that of
+  -- a halving plan, the input is read as a boosting plan and a script.
   abbrev pub trace_by : (first : Option ℕ) → (input : List ℕ)
-      → Result pulses.Scripted RunRefusal → Result (List ℕ) TraceReason
-  trace_by first input (Ok s) = pulses_trace s
+      → Result halving.Scripted RunRefusal → Result (List ℕ) TraceReason
+  trace_by first input (Ok s) = halving_trace s
   trace_by first input (Err refused) =
       if fails_at_first first refused then boosting_trace_or (scripted_of input)
-      else Err (reason.Pulses refused)
+      else Err (reason.Halving refused)
 
   abbrev pub trace_of : (input : List ℕ) → Result (List ℕ) TraceReason
-  trace_of input = trace_by (first_unskipped 1 (lines_of input)) input (pulses.scripted_of input)
+  trace_of input = trace_by (first_unskipped 1 (lines_of input)) input (halving.scripted_of input)

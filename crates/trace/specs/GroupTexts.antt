@@ -6,12 +6,12 @@ use Rattle.counting.specs.Values.{count_of, least_above}
 use Rattle.sync_types.specs.States.{State}
 use Rattle.sync_types.specs.declared.states.Reg.{Reg}
 use Rattle.construction.specs.Steps.{state_of}
-use Rattle.pulse_plan.specs.Halves.{Halves, faults_of, instructions}
-use Rattle.pulse_plan.specs.LevelStates.{LevelState, says_left, says_right, fires_left}
-use Rattle.pulse_plan.specs.LevelStates.{fires_right}
-use Rattle.pulse_plan.specs.LevelStates.{values_of}
-use Rattle.pulse_plan.specs.Groups.{PulseGroup, sizes_of}
-use Rattle.pulse_plan.specs.PulseMachineHearing.{level_state_in, level_states_in}
+use Rattle.halving_plan.specs.Halves.{Halves, faults_of, instructions}
+use Rattle.halving_plan.specs.LevelStates.{LevelState, says_left, says_right, fires_left}
+use Rattle.halving_plan.specs.LevelStates.{fires_right}
+use Rattle.halving_plan.specs.LevelStates.{values_of}
+use Rattle.halving_plan.specs.Groups.{HalvingGroup, sizes_of}
+use Rattle.halving_plan.specs.GroupHearing.{level_state_in, level_states_in}
 use Rattle.trace.specs.declared.headings.Heading.{Heading}
 use Rattle.trace.specs.Words.{number_or_none, faulty_word, mark_word, turn_word, all_have}
 use Rattle.trace.specs.Counted.{grade_of, fires_word}
@@ -34,7 +34,7 @@ abbrev pub half_word : (left : Bool) → List ℕ
 half_word true = codes " left"
 half_word false = codes " right"
 
--- whether the pulse of a half was seen
+-- whether the halving of a half was seen
 abbrev pub seen_word : Bool → List ℕ
 seen_word true = codes " seen"
 seen_word false = codes " unseen"
@@ -71,7 +71,7 @@ heard_if false halves own states = []
 -- Of a heading, with the faulty nodes and the configuration. If no round follows, nothing is heard.
 module _ (h : Heading) (faulty : List ℕ) (config : List State) where
   -- the beginning of a group's line, up to the node's own register there, which this is
-  abbrev pub group_front : PulseGroup → Reg → List ℕ
+  abbrev pub group_front : HalvingGroup → Reg → List ℕ
   group_front group own =
       concat (codes "at " ∷ decimal h.at ∷ codes " node " ∷ decimal h.node ∷ faulty_word h.faulty
       ∷ codes " group " ∷ decimal group.first ∷ codes " " ∷ decimal (group.first + group.nodes - 1)
@@ -80,7 +80,7 @@ module _ (h : Heading) (faulty : List ℕ) (config : List State) where
       (all_have group.register group.first group.nodes faulty config own.a) ∷ [])
 
   -- from what the node hears of all nodes
-  abbrev pub group_line : (hears : Bool) → (heard : List State) → PulseGroup → List ℕ
+  abbrev pub group_line : (hears : Bool) → (heard : List State) → HalvingGroup → List ℕ
   group_line hears heard group =
       let own = level_state_in group (state_of config h.node) in
       concat (group_front group own.register ∷ held_part group.faults group.first own

@@ -13,9 +13,9 @@ use Rattle.round_runner.specs.Locks.{is_locked_in}
 use Rattle.round_runner.specs.Played.{played_at}
 use Rattle.machine_runner.specs.Locks as machine
 use Rattle.machine_runner.specs.Played as machine_played
-use Rattle.pulse_plan.specs.Laws.{machine_in}
-use Rattle.pulse_plan.specs.Plans.{PulseNumbers, IsAccepted}
-use Rattle.trace.specs.PulseTraceTexts as pulses
+use Rattle.halving_plan.specs.Laws.{machine_in}
+use Rattle.halving_plan.specs.Plans.{HalvingNumbers, IsAccepted}
+use Rattle.trace.specs.HalvingTraceTexts as halving
 use Rattle.trace.specs.TraceTexts.{trace_text}
 use Rattle.trace.specs.Words.{number_or_none}
 
@@ -61,23 +61,23 @@ LocksAreTold =
     → TellsLock plan.levels (faulty_at script t) (played_at plan script t) t v
     (trace_text plan script nodes first last)
 
--- ---- on a pulse plan
+-- ---- on a halving plan
 
 -- a text has the line of the whole group that says whether the configuration is locked
-abbrev pub TellsPulseLock : PulseNumbers → (faulty : List ℕ) → (config : List State) → (t v : ℕ)
+abbrev pub TellsHalvingLock : HalvingNumbers → (faulty : List ℕ) → (config : List State) → (t v : ℕ)
     → (text : List ℕ) → Type 0
-TellsPulseLock plan faulty config t v text =
+TellsHalvingLock plan faulty config t v text =
     HasPart (told_front t v
     (codes " group " ∷ decimal 0 ∷ codes " " ∷ decimal (plan.nodes - 1) ∷ [])
     (register_at 0 (state_of config v)) (machine.is_locked (machine_in plan) faulty config))
     text
 
 -- The same of the line of the whole group, if that has halves.
-abbrev pub PulseLocksAreTold : Type 0
-PulseLocksAreTold =
-    (plan : PulseNumbers) (script : Script) (nodes : List ℕ) (first last t v : ℕ)
+abbrev pub HalvingLocksAreTold : Type 0
+HalvingLocksAreTold =
+    (plan : HalvingNumbers) (script : Script) (nodes : List ℕ) (first last t v : ℕ)
     → IsAccepted plan → 0 < plan.faults → first ≤ t → t ≤ last → Contains nodes v
     → v < plan.nodes → is_in (faulty_at script t) v ≡ false
-    → TellsPulseLock plan (faulty_at script t)
+    → TellsHalvingLock plan (faulty_at script t)
     (machine_played.played_at (machine_in plan) script t) t v
-    (pulses.trace_text plan script nodes first last)
+    (halving.trace_text plan script nodes first last)

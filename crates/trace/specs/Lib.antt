@@ -6,11 +6,11 @@ pub mod Reasons
 pub mod Requests
 pub mod Around
 pub mod Counted
-pub mod PulseDesks
+pub mod HalvingDesks
 pub mod GroupTexts
 pub mod Groups
-pub mod PulseNodeTexts
-pub mod PulseTraceTexts
+pub mod HalvingNodeTexts
+pub mod HalvingTraceTexts
 pub mod Headings
 pub mod Words
 pub mod Desks

@@ -2,8 +2,8 @@
 use Rattle.std.specs.Prelude.{◌≡◌, ℕ, List, [], ◌∷◌, Ok, codes}
 use Rattle.std.specs.List.{concat}
 use Rattle.state_codec.specs.Shapes.{Shape}
-use Rattle.trace.specs.Answers.{boosting_trace, pulses_trace, trace_of}
-use Rattle.trace.specs.WorkedScripts.{boosting_plan, boosting_script, pulse_plan, pulse_script}
+use Rattle.trace.specs.Answers.{boosting_trace, halving_trace, trace_of}
+use Rattle.trace.specs.WorkedScripts.{boosting_plan, boosting_script, halving_plan, halving_script}
 use Rattle.trace.specs.WorkedScripts.{twelve_plan, twelve_script, seven_plan, seven_script}
 
 abbrev pub boosting_text : List ℕ
@@ -37,8 +37,8 @@ boosting_text = concat (
     ∷ codes "at 2 node 2 faulty number 1 output 5\nat 2 node 2 faulty level 1 value 5 locked\n"
     ∷ codes "at 2 node 3 number none output 5\nat 2 node 3 level 1 value 5 locked\n" ∷ [])
 
-abbrev pub pulse_text : List ℕ
-pulse_text = concat (
+abbrev pub halving_trace_text : List ℕ
+halving_trace_text = concat (
     codes "at 0 node 0 faulty number 5 output 7\n"
     ∷ codes "at 0 node 0 faulty group 0 3 value 7 unmarked waits began left age 3 left unseen"
     ∷ codes " right unseen left said 2 echoed right said 3 backed same 1 least 4 fires right\n"
@@ -113,11 +113,11 @@ IsTracedAt1 nodes input text = trace_of (record { first = 1; last = 1 }) nodes i
 pub record TracesAreSpelled : Type 0 where
   pub boosting : (shape : Shape) → boosting_trace (record { first = 0; last = 2 }) []
       (record { plan = boosting_plan; script = boosting_script shape }) ≡ Ok boosting_text
-  pub pulses : (shape : Shape) → pulses_trace (record { first = 0; last = 2 }) []
-      (record { plan = pulse_plan; script = pulse_script shape }) ≡ Ok pulse_text
+  pub halving : (shape : Shape) → halving_trace (record { first = 0; last = 2 }) []
+      (record { plan = halving_plan; script = halving_script shape }) ≡ Ok halving_trace_text
   pub twelve : boosting_trace (record { first = 0; last = 0 }) (codes "5" ∷ [])
       (record { plan = twelve_plan; script = twelve_script }) ≡ Ok twelve_text
-  pub seven : pulses_trace (record { first = 0; last = 0 }) (codes "3" ∷ [])
+  pub seven : halving_trace (record { first = 0; last = 0 }) (codes "3" ∷ [])
       (record { plan = seven_plan; script = seven_script }) ≡ Ok seven_text
   pub named : IsTracedAt1 (codes "3" ∷ codes "0" ∷ [])
       (concat (codes "plan 2\nbase 576\nlevel 3 1 10 spare 1\nend\n"
@@ -125,5 +125,5 @@ pub record TracesAreSpelled : Type 0 where
       (concat (codes "at 1 node 0 number 1 output 1\nat 1 node 0 level 1 value 1 unmarked\n"
       ∷ codes "at 1 node 3 number none output 1\nat 1 node 3 level 1 value 1 unmarked\n" ∷ []))
   pub alone : IsTracedAt1 []
-      (codes "pulses 1\ngroup 1 0 3\nend\nscript 1\nfaulty\nstart zero\nrounds 1\nshow 0 1\nend\n")
+      (codes "halving 1\ngroup 1 0 3\nend\nscript 1\nfaulty\nstart zero\nrounds 1\nshow 0 1\nend\n")
       (codes "at 1 node 0 number 1 output 1\n")

@@ -10,9 +10,9 @@ use Rattle.adversary_script.specs.declared.lies.Lie.{Lie}
 use Rattle.adversary_script.specs.declared.lies.Start.{Start}
 use Rattle.adversary_script.specs.declared.lies.What.TheVariants as what
 use Rattle.adversary_script.specs.declared.lies.Who.TheVariants as who
-use Rattle.pulse_plan.specs.LevelStates.{LevelState}
-use Rattle.pulse_plan.specs.Plans.{PulseNumbers}
-use Rattle.pulse_plan.specs.Registers.{registers_of}
+use Rattle.halving_plan.specs.LevelStates.{LevelState}
+use Rattle.halving_plan.specs.Plans.{HalvingNumbers}
+use Rattle.halving_plan.specs.Registers.{registers_of}
 
 -- a node begins with a state
 abbrev pub begins : (v : ℕ) → State → Start
@@ -104,18 +104,18 @@ twelve_script =
     ∷ begins 5 (holds_two 40 65 true 3 true) ∷ begins 6 (holds_two 144 65 true 3 true)
     ∷ begins 7 (holds_two 0 70 false 4 false) ∷ [])
 
--- ---- on a pulse plan
+-- ---- on a halving plan
 
 -- node 0 is the left half, node 1 the right one, and the others are spares
-abbrev pub pulse_plan : PulseNumbers
-pulse_plan = record { nodes = 4; faults = 1; modulus = 10 }
+abbrev pub halving_plan : HalvingNumbers
+halving_plan = record { nodes = 4; faults = 1; modulus = 10 }
 
 -- a number, and a level state in the group
 abbrev pub holds_level : (x : ℕ) → LevelState → State
 holds_level x own = record { x = x; registers = registers_of 1 own }
 
 -- A level state: a register of the phase king, which instruction comes, of the half that began
--- them; the age of the left pulse, and which pulses were seen.
+-- them; the age of the left halving, and which halving were seen.
 abbrev pub level_state : (a : Option ℕ) → (d : Bool) → (instruction : ℕ) → (by_left : Bool)
     → (age : ℕ) → (left right : Bool) → LevelState
 level_state a d instruction by_left age left right = record {
@@ -128,9 +128,9 @@ level_state a d instruction by_left age left right = record {
 }
 
 -- Node 0 is faulty in configuration 0, where the others are locked, and node 3 from configuration 1
--- on, where node 0 is not marked. Each tells one node that it saw the left pulse.
-abbrev pub pulse_script : Shape → Script
-pulse_script shape =
+-- on, where node 0 is not marked. Each tells one node that it saw the left halving.
+abbrev pub halving_script : Shape → Script
+halving_script shape =
     two_eras shape 0 3
     (begins 0 (holds_level 5 (level_state (Some 7) false 6 true 3 false false))
     ∷ begins 1 (holds_level 2 (level_state (Some 4) true 0 false 17 true true))
@@ -141,7 +141,7 @@ pulse_script shape =
     ∷ tells 1 3 0 0 (holds_level 0 (level_state None false 0 false 0 true false)) ∷ [])
 
 -- the nodes 1 to 4 are the right half, in which the nodes 3 and 4 are spares
-abbrev pub seven_plan : PulseNumbers
+abbrev pub seven_plan : HalvingNumbers
 seven_plan = record { nodes = 7; faults = 2; modulus = 10 }
 
 -- level states in the whole and in the right half

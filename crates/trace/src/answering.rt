@@ -5,14 +5,14 @@ ghost use Rattle.program_words.specs.Conduct.{Answers};
 ghost use Rattle.trace.specs.Answers.{is_first, fails_at_first, trace_of};
 
 use crate::of_boosting::write_boosting_trace;
-use crate::of_pulses::write_pulses_trace;
+use crate::of_halving::write_halving_trace;
 use crate::reasons::{TraceError, TraceReason};
 use crate::wants::Want;
 use edge_io::Sink;
+use halving_runs::{PlayError, RunRefusal, read_scripted};
 use machine_runner::Runner;
 use plan_reader::first_unskipped;
 use program_words::ProgramError;
-use pulse_runs::{PlayError, RunRefusal, read_scripted};
 use std::alloc::Global;
 
 /// Whether the line is the first one that counts, or no line does.
@@ -25,7 +25,7 @@ fn is_first(first: Option<u64>, line: u64) -> bool
     }
 }
 
-/// Whether an input is refused as a pulse plan for its first line that counts.
+/// Whether an input is refused as a halving plan for its first line that counts.
 fn fails_at_first(first: Option<u64>, refusal: RunRefusal) -> bool
     ensures { result ≡ fails_at_first first refusal }
 {
@@ -54,13 +54,13 @@ pub fn write_trace<K: Sink>(
     match read_scripted(alloc, input) {
         Ok((machine, shape, script)) => {
             let mut runner = Runner::new(alloc, &machine, shape, script)?;
-            write_pulses_trace(alloc, want, words, &mut runner, sink)
+            write_halving_trace(alloc, want, words, &mut runner, sink)
         }
         Err(PlayError::Refused(refusal)) => {
             if fails_at_first(first_unskipped(input, 1), refusal) {
                 write_boosting_trace(alloc, want, words, input, sink)
             } else {
-                Err(ProgramError::Refused(TraceReason::Pulses(refusal)))
+                Err(ProgramError::Refused(TraceReason::Halving(refusal)))
             }
         }
         Err(PlayError::NoMemory) => Err(ProgramError::NoMemory),

@@ -5,11 +5,11 @@ ghost use Rattle.program_words.specs.Conduct.{LeavesUnread};
 ghost use Rattle.texts.specs.Growth.{Puts};
 ghost use Rattle.trace.specs.Conduct.{DoesAsked, asked_of};
 ghost use Rattle.trace.specs.HelpText.{help_text, version_text};
-ghost use Rattle.trace.specs.Laws.{LocksAreTold, PulseLocksAreTold};
+ghost use Rattle.trace.specs.Laws.{LocksAreTold, HalvingLocksAreTold};
 ghost use Rattle.trace.specs.Worked.{TracesAreSpelled};
 
 use crate::calling::trace_input;
-use crate::laws::{locks_are_told, pulse_locks_are_told, traces_are_spelled};
+use crate::laws::{halving_locks_are_told, locks_are_told, traces_are_spelled};
 use crate::reasons::TraceError;
 use crate::requests::{node_words, request_of};
 use edge_io::{Sink, Source, WriteFault, put_all};
@@ -19,7 +19,7 @@ use std::alloc::Global;
 /// How the program is used.
 const HELP: &[u8] = b"usage: trace FROM TO [NODE ..] < PLAN_AND_SCRIPT\n\
     Plays a script on the counter of its plan, as counterlab run does, or of\n\
-    its pulse plan, as pulselab run does, and writes of each configuration\n\
+    its halving plan, as halvinglab run does, and writes of each configuration\n\
     from FROM to TO what the nodes hold, and what they make of what they\n\
     hear: of all nodes, or of these.\n";
 
@@ -34,7 +34,7 @@ fn write_help<K: Sink>(sink: &mut K) -> Result<(), WriteFault>
 fn write_version<K: Sink>(sink: &mut K) -> Result<(), WriteFault>
     ensures { Puts result version_text (K.told sink.old) (K.told sink.new) }
 {
-    put_all(sink, b"trace 1.0\n")
+    put_all(sink, b"trace 2.0\n")
 }
 
 /// Does what the words ask for. `FROM TO [NODE ..]` asks for a trace of the configurations from
@@ -59,16 +59,16 @@ pub fn answer<S: Source, K: Sink>(
     // At `ReadFault` the end of the source was not met.
     ensures unmet { IsErrOf result ProgramError.ReadFault → S.met source.new ≡ S.met source.old }
 
-    // In a trace the line of a correct node at the top level, or of a pulse plan in the whole
+    // In a trace the line of a correct node at the top level, or of a halving plan in the whole
     // group, says `locked` exactly if the configuration is locked.
     ensures locks { LocksAreTold }
-    ensures pulse_locks { PulseLocksAreTold }
+    ensures halving_locks { HalvingLocksAreTold }
 
     // Traces on a plan of either construction, letter by letter.
     ensures spelled { TracesAreSpelled }
 {
     locks_are_told();
-    pulse_locks_are_told();
+    halving_locks_are_told();
     traces_are_spelled();
     match asked_by(words, request_of(words)) {
         Asked::Help => Ok(write_help(sink)?),

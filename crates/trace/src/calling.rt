@@ -13,11 +13,11 @@ use texts::LONGEST_INPUT;
 
 /// Reads a plan and a script, plays the script, and writes of each wanted configuration what the
 /// nodes hold that the words name, or all if there is no word, and what they make of what they
-/// hear. The plan is a pulse plan if the first line that counts is that of one, and else a boosting
+/// hear. The plan is a halving plan if the first line that counts is that of one, and else a boosting
 /// plan.
 ///
-/// The whole source is read first, at most 2^20 bytes. `Boosting` and `Pulses` come exactly if
-/// `run` of `counterlab`, or of `pulselab`, refuses the input; `NotPlayed` if it is a plan and a
+/// The whole source is read first, at most 2^20 bytes. `Boosting` and `Halving` come exactly if
+/// `run` of `counterlab`, or of `halvinglab`, refuses the input; `NotPlayed` if it is a plan and a
 /// script of fewer rounds than the last wanted configuration; `NoNode` if that one is played, and a
 /// word names no node of the plan. `TooLong` comes only if the byte after the limit was there,
 /// `ReadFault` and `WriteFault` only if the source, before its end, or the sink counted a fault,

@@ -3,10 +3,10 @@
 ghost use Rattle.std.specs.Prelude.{◌≡◌};
 ghost use Rattle.counting.specs.Values.{count_of, least_above};
 ghost use Rattle.edge_io.specs.Writing.{Writes};
-ghost use Rattle.pulse_plan.specs.LevelStates.{echoed, backed, says_left, says_right};
-ghost use Rattle.pulse_plan.specs.LevelStates.{values_of};
-ghost use Rattle.pulse_plan.specs.PulseMachineHearing.{level_states_in};
-ghost use Rattle.pulse_plan.specs.PulseMachineLevelStates.{left_fires, right_fires};
+ghost use Rattle.halving_plan.specs.LevelStates.{echoed, backed, says_left, says_right};
+ghost use Rattle.halving_plan.specs.LevelStates.{values_of};
+ghost use Rattle.halving_plan.specs.GroupHearing.{level_states_in};
+ghost use Rattle.halving_plan.specs.WrittenLevelStates.{left_fires, right_fires};
 ghost use Rattle.trace.specs.Counted.{grade_word, fires_word, counted_part};
 
 use crate::group_views::GroupView;
@@ -14,14 +14,14 @@ use crate::line_words::number_piece;
 use crate::rooms::ValueRoom;
 use counter_core::HeardRegister;
 use edge_io::{Piece, Sink, Writer};
-use pulse_plan::{Group, LevelState, count_group};
+use halving_plan::{Group, LevelState, count_group};
 
 /// What a node counts of the nodes of a group.
 #[derive(Clone, Copy, Debug)]
 pub struct HeardCounts {
-    /// How many say that they saw the left half's pulse.
+    /// How many say that they saw the left half's halving.
     pub left: usize,
-    /// How many say that they saw the right half's pulse.
+    /// How many say that they saw the right half's halving.
     pub right: usize,
     /// How many have the node's own value.
     pub same: usize,
@@ -55,7 +55,7 @@ pub fn count_said(seen: &GroupView<'_>, own: &LevelState, room: &mut ValueRoom) 
     }
 }
 
-/// The grade of a pulse that so many nodes of a group say that they saw.
+/// The grade of a halving that so many nodes of a group say that they saw.
 fn grade_word(group: &Group, says: usize) -> &'static str
     ensures { result.now ≡ grade_word (echoed group.now.nodes group.now.faults says)
         (backed group.now.nodes group.now.faults says) }

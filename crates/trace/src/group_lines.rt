@@ -3,14 +3,14 @@
 ghost use Rattle.std.specs.Prelude.{◌≡◌};
 ghost use Rattle.construction.specs.Steps.{state_of};
 ghost use Rattle.edge_io.specs.Writing.{Writes};
-ghost use Rattle.pulse_plan.specs.Groups.{sizes_of};
-ghost use Rattle.pulse_plan.specs.PulseMachineHearing.{level_state_in, level_states_in};
+ghost use Rattle.halving_plan.specs.Groups.{sizes_of};
+ghost use Rattle.halving_plan.specs.GroupHearing.{level_state_in, level_states_in};
 ghost use Rattle.trace.specs.Around.{IsAround};
 ghost use Rattle.trace.specs.GroupTexts.{half_word, seen_word, marks_part};
 ghost use Rattle.trace.specs.GroupTexts.{instruction_part, held_part, heard_if};
 ghost use Rattle.trace.specs.GroupTexts.{group_front, group_line};
 ghost use Rattle.trace.specs.Groups.{groups_of};
-ghost use Rattle.trace.specs.PulseNodeTexts.{group_lines};
+ghost use Rattle.trace.specs.HalvingNodeTexts.{group_lines};
 
 use crate::counted::{count_said, put_said};
 use crate::group_views::GroupView;
@@ -19,7 +19,7 @@ use crate::rooms::ValueRoom;
 use crate::views::View;
 use counter_core::Heard;
 use edge_io::{Piece, Sink, Writer};
-use pulse_plan::{Group, LevelState};
+use halving_plan::{Group, LevelState};
 
 /// The word of the half that began the instructions.
 fn half_word(left: bool) -> &'static str
@@ -28,7 +28,7 @@ fn half_word(left: bool) -> &'static str
     if left { " left" } else { " right" }
 }
 
-/// The word of a pulse, by whether it was seen.
+/// The word of a halving, by whether it was seen.
 fn seen_word(seen: bool) -> &'static str
     ensures { result.now ≡ seen_word seen }
 {
@@ -56,7 +56,7 @@ fn put_instruction<K: Sink>(writer: &mut Writer<'_, K>, group: &Group, own: &Lev
     }
 }
 
-/// Writes which half began the instructions, the age of the left pulse, and which pulses were seen.
+/// Writes which half began the instructions, the age of the left halving, and which halving were seen.
 fn put_marks<K: Sink>(writer: &mut Writer<'_, K>, own: &LevelState)
     ensures { Writes K.told (marks_part own.now) writer.old writer.new }
 {

@@ -2,7 +2,7 @@ ghost use Rattle.std.specs.Prelude.{◌+◌, ◌<◌, ◌≤◌, length, All};
 
 use crate::views::View;
 use counter_core::Heard;
-use pulse_plan::Group;
+use halving_plan::Group;
 
 /// A group with halves in which the node of a view is, with what the node hears of all nodes.
 #[derive(Clone, Copy)]

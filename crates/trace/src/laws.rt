@@ -1,6 +1,6 @@
 //! The laws of traces, and worked values. The functions are empty: their clauses are what they say.
 
-ghost use Rattle.trace.specs.Laws.{LocksAreTold, PulseLocksAreTold};
+ghost use Rattle.trace.specs.Laws.{LocksAreTold, HalvingLocksAreTold};
 ghost use Rattle.trace.specs.Worked.{TracesAreSpelled};
 
 /// In a trace on a boosting plan with a level, the line of a correct node at the top level says
@@ -9,10 +9,10 @@ pub fn locks_are_told()
     ensures { LocksAreTold }
 {}
 
-/// In a trace on a pulse plan whose group has halves, the line of a correct node in the whole group
+/// In a trace on a halving plan whose group has halves, the line of a correct node in the whole group
 /// says `locked` exactly if the configuration is locked.
-pub fn pulse_locks_are_told()
-    ensures { PulseLocksAreTold }
+pub fn halving_locks_are_told()
+    ensures { HalvingLocksAreTold }
 {}
 
 /// Traces on a plan of either construction, with two eras, letter by letter.

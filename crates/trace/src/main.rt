@@ -1,17 +1,17 @@
 //! Writes what the nodes of a script's run hold and hear. `trace FROM TO [NODE ..]` reads a plan
-//! and a script from standard input, as `counterlab run` does, or a pulse plan and a script, as
-//! `pulselab run` does. It writes of each configuration from FROM to TO, and of each node that is
+//! and a script from standard input, as `counterlab run` does, or a halving plan and a script, as
+//! `halvinglab run` does. It writes of each configuration from FROM to TO, and of each node that is
 //! named, or of all, a line of its state and one of each level, or of each group with halves, in
 //! which it is.
 //!
-//! [`tracing::put_trace`] plays a script on a boosting plan, and [`pulse_tracing::put_pulse_trace`]
-//! one on a pulse plan, and both write the lines of the wanted configurations and nodes. The texts
+//! [`tracing::put_trace`] plays a script on a boosting plan, and [`halving_tracing::put_halving_trace`]
+//! one on a halving plan, and both write the lines of the wanted configurations and nodes. The texts
 //! are defined in specs/: by the construction's own votes, lead, position and counts, and of a
-//! pulse plan by its level states, grades and fires.
+//! halving plan by its level states, grades and fires.
 //!
 //! `--help` and `--version` write what they say. Other words are answered by one line of usage on
 //! standard error, and what is refused by one line there. The exit codes are those of `counterlab`
-//! and `pulselab`.
+//! and `halvinglab`.
 //!
 //! All that is proved, of [`asking::answer`], [`program_words::put_error`] and the code of
 //! [`program_words::end`]; that the line goes to standard error is not.
@@ -24,6 +24,9 @@ mod counted;
 mod desks;
 mod group_lines;
 mod group_views;
+mod halving_desks;
+mod halving_node_lines;
+mod halving_tracing;
 mod headings;
 mod laws;
 mod level_groups;
@@ -33,11 +36,8 @@ mod line_words;
 mod naming;
 mod node_lines;
 mod of_boosting;
-mod of_pulses;
+mod of_halving;
 mod places;
-mod pulse_desks;
-mod pulse_node_lines;
-mod pulse_tracing;
 mod reasons;
 mod requests;
 mod rooms;

@@ -1,7 +1,7 @@
 use edge_io::{Sink, WriteFault, put_all};
+use halving_runs::RunRefusal;
 use outcomes::{Refusal, put_refusal};
 use program_words::{ProgramError, Reason, TOO_LONG};
-use pulse_runs::RunRefusal;
 use sync_types::Status;
 
 /// Why there is no trace of an input.
@@ -9,8 +9,8 @@ use sync_types::Status;
 pub enum TraceReason {
     /// The input is refused, as `counterlab run` refuses it.
     Boosting(Refusal),
-    /// The input begins with a pulse plan, and is refused, as `pulselab run` refuses it.
-    Pulses(RunRefusal),
+    /// The input begins with a halving plan, and is refused, as `halvinglab run` refuses it.
+    Halving(RunRefusal),
     /// The script does not play the last wanted configuration.
     NotPlayed,
     /// A word names no node of the plan.
@@ -43,7 +43,7 @@ impl Reason for TraceReason {
     fn code(&self) -> u8 {
         match *self {
             TraceReason::Boosting(refusal) => refusal.status().code(),
-            TraceReason::Pulses(refusal) => refusal.code(),
+            TraceReason::Halving(refusal) => refusal.code(),
             TraceReason::NotPlayed | TraceReason::NoNode => Status::Usage.code(),
         }
     }
@@ -51,7 +51,7 @@ impl Reason for TraceReason {
     fn put_line<K: Sink>(&self, sink: &mut K) -> Result<(), WriteFault> {
         match *self {
             TraceReason::Boosting(refusal) => put_refusal(sink, refusal),
-            TraceReason::Pulses(refusal) => pulse_runs::put_refusal(sink, refusal),
+            TraceReason::Halving(refusal) => halving_runs::put_refusal(sink, refusal),
             TraceReason::NotPlayed => {
                 put_all(sink, b"refused words: TO is above the script's rounds\n")
             }

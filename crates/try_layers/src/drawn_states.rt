@@ -1,7 +1,7 @@
-//! States of nodes that are drawn, as bench/tools/pulse_steps.py draws them.
+//! States of nodes that are drawn, as bench/tools/halving_steps.py draws them.
 
 use counter_core::clear;
-use pulse_plan::{Group, LevelState, PulsePlan};
+use halving_plan::{Group, HalvingPlan, LevelState};
 use std::process::Abort;
 use sync_types::{NodeState, Reg};
 
@@ -34,7 +34,7 @@ impl Numbers {
         self.word.wrapping_shr(16)
     }
 
-    /// Whether a node says that it saw a pulse.
+    /// Whether a node says that it saw a halving.
     fn saw(&mut self, density: u64) -> bool {
         let drawn = self.draw();
         if density == 0 {
@@ -116,7 +116,7 @@ impl Numbers {
     pub(crate) fn state(
         &mut self,
         rt: &impl Abort,
-        plan: &PulsePlan,
+        plan: &HalvingPlan,
         node: u32,
         density: u64,
         state: &mut NodeState,
@@ -126,14 +126,14 @@ impl Numbers {
     }
 }
 
-/// How likely nodes say that they saw a pulse.
+/// How likely nodes say that they saw a halving.
 pub(crate) const DENSITIES: [u64; 4] = [0, 2, 4, 1_000_003];
 
 /// Draws a state of each node, one after another.
 pub(crate) fn draw_all(
     rt: &impl Abort,
     numbers: &mut Numbers,
-    plan: &PulsePlan,
+    plan: &HalvingPlan,
     density: u64,
     states: &mut [NodeState],
 ) {

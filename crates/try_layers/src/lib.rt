@@ -10,6 +10,18 @@ mod drawn_states;
 #[cfg(test)]
 mod firing_calls;
 #[cfg(test)]
+mod halving_counter_calls;
+#[cfg(test)]
+mod halving_machine_calls;
+#[cfg(test)]
+mod halving_nodes_calls;
+#[cfg(test)]
+mod halving_plan_calls;
+#[cfg(test)]
+mod halving_tables_calls;
+#[cfg(test)]
+mod halving_texts_calls;
+#[cfg(test)]
 mod node_calls_calls;
 #[cfg(test)]
 mod node_rounds_calls;
@@ -17,18 +29,6 @@ mod node_rounds_calls;
 mod node_stepper_calls;
 #[cfg(test)]
 mod players;
-#[cfg(test)]
-mod pulse_counter_calls;
-#[cfg(test)]
-mod pulse_machine_calls;
-#[cfg(test)]
-mod pulse_nodes_calls;
-#[cfg(test)]
-mod pulse_plan_calls;
-#[cfg(test)]
-mod pulse_tables_calls;
-#[cfg(test)]
-mod pulse_texts_calls;
 #[cfg(test)]
 mod replicated_log_calls;
 #[cfg(test)]

@@ -1,8 +1,8 @@
+use halving_plan::HalvingPremise;
+use halving_texts::{HalvingRefusal, LinePremise};
 use machines::Machine;
 use node_calls::{AnyMachine, CallError, counter_in, output, state_bytes, step};
 use plan_reader::PlanRefusal;
-use pulse_plan::PulsePremise;
-use pulse_texts::{LinePremise, PulsesRefusal};
 use std::alloc::Global;
 use std::test::Fail;
 use sync_types::Premise;
@@ -10,8 +10,8 @@ use sync_types::Premise;
 /// Three nodes and a spare one, one of which may be faulty, that count by ten.
 const FOUR: &[u8] = b"plan 2\nbase 576\nlevel 3 1 10 spare 1\nend\n";
 
-/// Four nodes of a pulse plan, one of which may be faulty, that count by ten.
-const PULSES: &[u8] = b"# four\npulses 1\ngroup 4 1 10\nend\n";
+/// Four nodes of a halving plan, one of which may be faulty, that count by ten.
+const HALVING: &[u8] = b"# four\nhalving 1\ngroup 4 1 10\nend\n";
 
 /// Whether the counter of a text has four nodes and this bound.
 fn is_four(counter: Result<AnyMachine, CallError>, bound: u64) -> bool {
@@ -26,8 +26,8 @@ fn a_plan_is_read(rt: HostRuntime) {
     assert!(rt; is_four(counter_in(rt.alloc(), FOUR), 576));
     assert!(rt; state_bytes(rt.alloc(), FOUR, 2) == Ok(2));
     assert!(rt; state_bytes(rt.alloc(), FOUR, 3) == Ok(1));
-    assert!(rt; is_four(counter_in(rt.alloc(), PULSES), 41));
-    assert!(rt; state_bytes(rt.alloc(), PULSES, 0) == Ok(3));
+    assert!(rt; is_four(counter_in(rt.alloc(), HALVING), 41));
+    assert!(rt; state_bytes(rt.alloc(), HALVING, 0) == Ok(3));
 }
 
 #[test]
@@ -53,16 +53,16 @@ const REFUSED: [Refused; 6] = [
         }),
     ),
     (
-        b"pulses 1\ngroup 3 1 10\nend\n",
+        b"halving 1\ngroup 3 1 10\nend\n",
         0,
         b"",
-        CallError::PulsesRefused(PulsesRefusal {
+        CallError::HalvingRefused(HalvingRefusal {
             line: 2,
-            premise: LinePremise::Plan(PulsePremise::Quorum),
+            premise: LinePremise::Plan(HalvingPremise::Quorum),
         }),
     ),
     (FOUR, 4, b"", CallError::Node),
-    (PULSES, 4, b"", CallError::Node),
+    (HALVING, 4, b"", CallError::Node),
     (FOUR, 3, b"", CallError::Length),
     (
         FOUR,
@@ -97,11 +97,11 @@ const TEXTS: [(CallError, &str); 7] = [
         "line 3 of the plan fails the premise Multiple",
     ),
     (
-        CallError::PulsesRefused(PulsesRefusal {
+        CallError::HalvingRefused(HalvingRefusal {
             line: 2,
-            premise: LinePremise::Plan(PulsePremise::Single),
+            premise: LinePremise::Plan(HalvingPremise::Single),
         }),
-        "line 2 of the pulses fails the premise single",
+        "line 2 of the halving plan fails the premise single",
     ),
     (CallError::Node, "no such node"),
     (CallError::Length, "the state has another length"),

@@ -1,10 +1,10 @@
 use Rattle.std.proofs.Common.{◌≡◌, ◌≤◌, subst, sym, arith}
 use Rattle.std.specs.Int.{div_ceil}
-use Rattle.pulse_plan.specs.Plans.{PulseNumbers}
+use Rattle.halving_plan.specs.Plans.{HalvingNumbers}
 use Rattle.construction.specs.Plans.{Plan}
-use Rattle.choose.specs.declared.any_plans.AnyPlan.TheVariants.{Boosting, Pulses}
+use Rattle.choose.specs.declared.any_plans.AnyPlan.TheVariants.{Boosting, Halving}
 use Rattle.choose.specs.MostFaults.{AreMost, IsMost}
-use Rattle.choose.proofs.MostFaults.{lone_most, pulses_most}
+use Rattle.choose.proofs.MostFaults.{lone_most, halving_most}
 use Rattle.choose.proofs.most_faults.most_plan.Goals as goal
 
 pub returns-then-f-eq0 : goal.returns-then-f-eq0
@@ -20,7 +20,7 @@ returns-then-f-eq0 c =
 pub returns : goal.returns
 returns c =
     let some : 1 ≤ c.faults_within-f.result = omega arith in
-    subst (λ (plan : PulseNumbers). IsMost c.args.n c.args.t c.args.c (Pulses plan))
+    subst (λ (plan : HalvingNumbers). IsMost c.args.n c.args.t c.args.c (Halving plan))
     (sym c.fewest_nodes.ensures)
-    (pulses_most c.args.n c.args.t c.faults_within-f.result c.requires.nodes.1
+    (halving_most c.args.n c.args.t c.faults_within-f.result c.requires.nodes.1
     c.faults_within-f.ensures c.args.c some c.requires.modulus.0 c.requires.modulus.1)

@@ -2,7 +2,7 @@ use Rattle.std.proofs.Common.{map, sym, ◌∙◌, ap, refl}
 use Rattle.std.specs.Prelude.{string_bytes}
 use Rattle.trace.specs.Answers.{fails_at_first}
 use Rattle.program_words.proofs.Answered.{answers_as}
-use Rattle.trace.proofs.PulsesTraced.{of_read, of_boosting, refused}
+use Rattle.trace.proofs.HalvingTraced.{of_read, of_boosting, refused}
 use Rattle.trace.proofs.answering.write_trace.Goals as goal
 
 pub returns-in_ok-runner-in-Ok : goal.returns-in_ok-runner-in-Ok
@@ -10,7 +10,7 @@ returns-in_ok-runner-in-Ok g c =
     answers_as _ _ _ _ _
     (of_read c.args.want (map string_bytes c.args.words.now) c.args.input.now _ c.in-Ok.ensures
     c.in_ok-runner-in-Ok.runner c.in_ok-runner-in-Ok.ensures)
-    c.write_pulses_trace.ensures
+    c.write_halving_trace.ensures
 
 pub returns-then-fails_at_first : goal.returns-then-fails_at_first
 returns-then-fails_at_first g c =

@@ -2,10 +2,10 @@ use Rattle.std.proofs.Common.{ℕ, List, map, take, drop, Option, ap, ap₂, ◌
 use Rattle.counting.specs.Values.{count_of, least_above}
 use Rattle.sync_types.specs.States.{State, register_at}
 use Rattle.counter_core.specs.HeardRegisters.{RegisterHeard, values_heard}
-use Rattle.pulse_plan.specs.LevelStates.{LevelState, values_of}
-use Rattle.pulse_plan.specs.MachineGroups.{section}
-use Rattle.pulse_plan.specs.PulseMachineHearing.{level_states_in}
-use Rattle.pulse_plan.proofs.PulseMachineHeard.{marks_left, marks_right, values_are}
+use Rattle.halving_plan.specs.LevelStates.{LevelState, values_of}
+use Rattle.halving_plan.specs.GroupStates.{section}
+use Rattle.halving_plan.specs.GroupHearing.{level_states_in}
+use Rattle.halving_plan.proofs.GroupHeard.{marks_left, marks_right, values_are}
 use Rattle.trace.proofs.counted.count_said.Goals as goal
 
 pub returns-clause-left : goal.returns-clause-left

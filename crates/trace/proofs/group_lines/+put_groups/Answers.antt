@@ -1,7 +1,7 @@
 use Rattle.std.proofs.Common.{◌<◌, sym, ap, arith}
 use Rattle.std.specs.List.{flat_map}
 use Rattle.std.specs.Prelude.{slice_index_or}
-use Rattle.pulse_plan.proofs.Depths.{four_deep}
+use Rattle.halving_plan.proofs.Depths.{four_deep}
 use Rattle.edge_io.proofs.Writing.{writes_is, writes_last, writes_none, writes_then}
 use Rattle.trace.specs.Around.{IsAround}
 use Rattle.trace.specs.GroupTexts.{group_line}

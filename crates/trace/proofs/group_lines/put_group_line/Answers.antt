@@ -1,8 +1,8 @@
 use Rattle.std.proofs.Common.{ap}
 use Rattle.edge_io.proofs.Writing.{writes_is, writes_then}
-use Rattle.pulse_plan.specs.LevelStates.{LevelState}
-use Rattle.pulse_plan.specs.PulseMachineHearing.{level_states_in}
-use Rattle.pulse_plan.specs.Groups.{sizes_of}
+use Rattle.halving_plan.specs.LevelStates.{LevelState}
+use Rattle.halving_plan.specs.GroupHearing.{level_states_in}
+use Rattle.halving_plan.specs.Groups.{sizes_of}
 use Rattle.trace.specs.GroupTexts.{group_front, held_part, heard_if}
 use Rattle.trace.proofs.group_lines.put_group_line.Goals as goal
 

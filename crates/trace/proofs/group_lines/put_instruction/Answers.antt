@@ -3,8 +3,8 @@ use Rattle.std.proofs.Common.{sym, ap, ap₂, ◌∙◌, arith}
 use Rattle.std.specs.Prelude.{nat_lt, if◌then◌else◌, codes, decimal}
 use Rattle.std.specs.List.{concat}
 use Rattle.std.proofs.lemmas.Bool.{lt-ltb, le-ltb}
-use Rattle.pulse_plan.specs.Halves.{instructions}
-use Rattle.pulse_plan.specs.LevelStates.{LevelState}
+use Rattle.halving_plan.specs.Halves.{instructions}
+use Rattle.halving_plan.specs.LevelStates.{LevelState}
 use Rattle.edge_io.proofs.Writing.{writes_is}
 use Rattle.trace.specs.GroupTexts.{turn_part}
 use Rattle.trace.specs.Words.{turn_word}

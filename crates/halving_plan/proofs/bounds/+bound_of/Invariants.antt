@@ -1,0 +1,4 @@
+use Rattle.halving_plan.proofs.bounds.+bound_of.Given as goal
+
+abbrev pub decreases-bound_of : goal.decreases-bound_of
+decreases-bound_of l = l.faults

@@ -1,0 +1,13 @@
+use Rattle.node_words.proofs.ResumedInputs.{any_resume}
+use Rattle.halving_plan.specs.Plans.{IsAccepted}
+use Rattle.halving_texts.specs.HeaderTexts.{header_text}
+use Rattle.halving_texts.specs.NodePromises.{header_lines}
+use Rattle.halving_texts.specs.HalvingWords.{halving_words}
+use Rattle.halving_texts.proofs.Headers.{headers_are_served}
+use Rattle.halving_texts.proofs.Inputs.{is_written}
+use Rattle.halving_texts.proofs.node_laws.any_inputs_resume.Goals as goal
+
+pub returns : goal.returns
+returns c =
+    any_resume halving_words IsAccepted headers_are_served header_lines header_text
+    (is_written c.header_texts_read_back.ensures c.accepted_are_sound.ensures)

@@ -1,0 +1,7 @@
+use Rattle.std.proofs.Common.{rules}
+use Rattle.edge_io.proofs.Writing.{writes_all}
+use Rattle.halving_texts.proofs.writing.write_halving.Goals as goal
+
+pub returns : goal.returns
+returns g c =
+    writes_all c.new-writer.ensures c.put_halving_text.ensures c.finish.ensures (search rules)

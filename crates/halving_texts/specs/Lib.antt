@@ -1,0 +1,11 @@
+pub mod HalvingWords
+pub mod NodePromises
+pub mod HalvingShapes
+pub mod HeaderTexts
+pub mod HalvingPart
+pub mod HalvingRefusals
+pub mod HalvingTexts
+pub mod Tables
+pub mod Buffers
+pub mod Reading
+pub mod TableLaws

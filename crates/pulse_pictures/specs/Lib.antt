@@ -1,5 +1,0 @@
-pub mod PulseTexts
-pub mod Members
-pub mod PulsePictures
-pub mod PulseSaid
-pub mod PulseLaid

@@ -1,4 +1,0 @@
-use Rattle.pulse_plan.proofs.bounds.+bound_of.Given as goal
-
-abbrev pub decreases-bound_of : goal.decreases-bound_of
-decreases-bound_of l = l.faults

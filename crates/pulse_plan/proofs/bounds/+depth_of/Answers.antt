@@ -1,8 +1,0 @@
-use Rattle.std.proofs.Common.{◌<◌, arith}
-use Rattle.pulse_plan.proofs.Trees.{height_of}
-use Rattle.pulse_plan.proofs.bounds.+depth_of.Goals as goal
-
-pub returns-clause-value : goal.returns-clause-value
-returns-clause-value t c = λ spares.
-    let some : 0 < c.args.faults = omega arith in
-    omega (arith, height_of c.args.faults spares some, c.depth_of.ensures.value 0)

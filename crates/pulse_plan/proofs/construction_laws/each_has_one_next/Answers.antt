@@ -1,5 +1,0 @@
-use Rattle.pulse_plan.proofs.OneNext as laws
-use Rattle.pulse_plan.proofs.construction_laws.each_has_one_next.Goals as goal
-
-pub returns : goal.returns
-returns c = laws.each_has_one_next

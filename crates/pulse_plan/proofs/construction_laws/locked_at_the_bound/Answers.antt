@@ -1,6 +1,0 @@
-use Rattle.pulse_plan.proofs.Settles as level
-use Rattle.pulse_plan.proofs.RunLaws as laws
-use Rattle.pulse_plan.proofs.construction_laws.locked_at_the_bound.Goals as goal
-
-pub returns : goal.returns
-returns c = laws.locks_at_bound level.one_half_is_sound level.pulses_settle

@@ -1,5 +1,0 @@
-use Rattle.pulse_plan.proofs.TreeSound as sound
-use Rattle.pulse_plan.proofs.construction_laws.machines_are_sound.Goals as goal
-
-pub returns : goal.returns
-returns c = sound.machines_are_sound

@@ -1,5 +1,0 @@
-use Rattle.pulse_plan.proofs.Settles as settles
-use Rattle.pulse_plan.proofs.level_laws.locked_stays_locked.Goals as goal
-
-pub returns : goal.returns
-returns c = settles.locked_stays_locked

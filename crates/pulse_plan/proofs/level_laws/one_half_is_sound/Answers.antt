@@ -1,5 +1,0 @@
-use Rattle.pulse_plan.proofs.Settles as settles
-use Rattle.pulse_plan.proofs.level_laws.one_half_is_sound.Goals as goal
-
-pub returns : goal.returns
-returns c = settles.one_half_is_sound

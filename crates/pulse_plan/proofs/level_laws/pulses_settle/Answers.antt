@@ -1,5 +1,0 @@
-use Rattle.pulse_plan.proofs.Settles as settles
-use Rattle.pulse_plan.proofs.level_laws.pulses_settle.Goals as goal
-
-pub returns : goal.returns
-returns c = settles.pulses_settle

@@ -1,5 +1,0 @@
-use Rattle.pulse_plan.proofs.Written.{bits_are_written}
-use Rattle.pulse_plan.proofs.size_laws.bits_are_written.Goals as goal
-
-pub returns : goal.returns
-returns c = bits_are_written

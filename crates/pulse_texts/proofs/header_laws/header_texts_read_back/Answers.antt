@@ -1,5 +1,0 @@
-use Rattle.pulse_texts.proofs.HeaderTexts.{text_is_read_back}
-use Rattle.pulse_texts.proofs.header_laws.header_texts_read_back.Goals as goal
-
-pub returns : goal.returns
-returns c = text_is_read_back

@@ -1,8 +1,0 @@
-use Rattle.edge_io.proofs.Writing.{writes_then}
-use Rattle.pulse_texts.proofs.table_writing.put_table.Goals as goal
-
-pub returns : goal.returns
-returns g c =
-    writes_then c.put_plan.ensures
-    (writes_then c.put_sizes.ensures
-    (writes_then (rw c.whole.ensures at c.put_groups.ensures) c.text.ensures))

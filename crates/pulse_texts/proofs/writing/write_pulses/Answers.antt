@@ -1,7 +1,0 @@
-use Rattle.std.proofs.Common.{rules}
-use Rattle.edge_io.proofs.Writing.{writes_all}
-use Rattle.pulse_texts.proofs.writing.write_pulses.Goals as goal
-
-pub returns : goal.returns
-returns g c =
-    writes_all c.new-writer.ensures c.put_pulses_text.ensures c.finish.ensures (search rules)

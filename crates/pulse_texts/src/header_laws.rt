@@ -1,9 +1,0 @@
-//! The law of header texts. The function is empty: its clause is the law.
-
-ghost use Rattle.pulse_texts.specs.HeaderTexts.{PulseHeaderTextIsRead};
-
-/// There is a header for each accepted plan, each node of it and each state of that node: its text
-/// is read as that header, at the beginning of any text.
-pub fn header_texts_read_back()
-    ensures { PulseHeaderTextIsRead }
-{}

@@ -1,6 +1,0 @@
-use Rattle.std.specs.Prelude.{◌≡◌}
-use Rattle.trace.specs.PulseDesks.{runner_at}
-use Rattle.trace.proofs.pulse_tracing.play.Given as goal
-
-abbrev pub invariant-loop : goal.invariant-loop
-invariant-loop l = l.runner ≡ runner_at l.fn.runner l.counter
