@@ -6,7 +6,7 @@ use Rattle.halving_plan.specs.Halves.{right_period}
 use Rattle.halving_plan.specs.LevelStates.{LevelState, shown, saw, backed, follows_left}
 use Rattle.halving_plan.specs.LevelStates.{instruction_of, values_of}
 use Rattle.halving_plan.specs.Groups.{HalvingGroup, sizes_of, right_of}
-use Rattle.halving_plan.specs.HalvingMachineHearing.{level_states_in, outputs_in}
+use Rattle.halving_plan.specs.GroupHearing.{level_states_in, outputs_in}
 use Rattle.trace.specs.declared.counted.HeardOfGroup.{HeardOfGroup}
 use Rattle.trace.specs.Counted.{counted_part}
 use Rattle.trace.specs.GroupTexts.{heard_part}

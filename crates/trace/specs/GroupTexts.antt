@@ -13,7 +13,7 @@ use Rattle.halving_plan.specs.Level.{faults_in}
 use Rattle.halving_plan.specs.LevelStates.{LevelState, shown, saw, backed, follows_left}
 use Rattle.halving_plan.specs.LevelStates.{instruction_of, king_of, values_of}
 use Rattle.halving_plan.specs.Groups.{HalvingGroup, sizes_of, right_of}
-use Rattle.halving_plan.specs.HalvingMachineHearing.{level_state_in, level_states_in, outputs_in}
+use Rattle.halving_plan.specs.GroupHearing.{level_state_in, level_states_in, outputs_in}
 use Rattle.trace.specs.declared.headings.Heading.{Heading}
 use Rattle.trace.specs.declared.sides.Side.{Side}
 use Rattle.trace.specs.declared.sides.Side.TheVariants as which

@@ -7,7 +7,7 @@ ghost use Rattle.halving_plan.specs.Halves.{right_period};
 ghost use Rattle.halving_plan.specs.Groups.{sizes_of, right_of};
 ghost use Rattle.halving_plan.specs.LevelStates.{shown, saw, backed, follows_left};
 ghost use Rattle.halving_plan.specs.LevelStates.{instruction_of, values_of};
-ghost use Rattle.halving_plan.specs.HalvingMachineHearing.{level_states_in, outputs_in};
+ghost use Rattle.halving_plan.specs.GroupHearing.{level_states_in, outputs_in};
 ghost use Rattle.trace.specs.Counted.{counted_part};
 ghost use Rattle.trace.specs.GroupTexts.{backed_word, half_word, instruction_part};
 

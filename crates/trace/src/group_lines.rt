@@ -3,7 +3,7 @@
 ghost use Rattle.std.specs.Prelude.{◌≡◌, ◌+◌, ◌≤◌, length};
 ghost use Rattle.construction.specs.Steps.{state_of};
 ghost use Rattle.edge_io.specs.Writing.{Writes};
-ghost use Rattle.halving_plan.specs.HalvingMachineHearing.{level_state_in};
+ghost use Rattle.halving_plan.specs.GroupHearing.{level_state_in};
 ghost use Rattle.trace.specs.Around.{IsAround};
 ghost use Rattle.trace.specs.GroupTexts.{sound_word, trust_word, is_sound, held_part, heard_if};
 ghost use Rattle.trace.specs.GroupTexts.{group_front, group_line};

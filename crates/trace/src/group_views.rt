@@ -1,5 +1,5 @@
 ghost use Rattle.std.specs.Prelude.{◌+◌, ◌<◌, ◌≤◌, length, All};
-ghost use Rattle.halving_plan.specs.MachineGroups.{HasGroup};
+ghost use Rattle.halving_plan.specs.GroupStates.{HasGroup};
 
 use crate::sides::Side;
 use crate::views::View;
