@@ -7,6 +7,8 @@ ghost use Rattle.edge_io.specs.declared.fed_parts.FedError.TheVariants as fed;
 use crate::{
     Feed, Line, LineBuf, LineFault, LineReader, Refused, Source, TakeError, take_unless_skipped,
 };
+use std::fmt::Debug;
+use thiserror::Error;
 
 /// A part that was read from a feed.
 #[derive(Drop)]
@@ -20,15 +22,20 @@ pub struct FedPart<V> {
 }
 
 /// Why a part was not read from a feed.
-#[derive(Clone, Copy, Debug, PartialEq, Eq)]
+#[derive(Clone, Copy, Debug, PartialEq, Eq, Error)]
+#[error_bound(R: Debug)]
 pub enum FedError<R> {
     /// A read failed, which the source has counted.
+    #[error("a read failed")]
     ReadFault,
     /// The lines so far are longer than their limit.
+    #[error("the lines are too long")]
     TooLong,
     /// A line was refused.
+    #[error("line {} fails the rule {:?}", .0.line, .0.rule)]
     Refused(Refused<R>),
     /// Memory ran out.
+    #[error("out of memory")]
     NoMemory,
 }
 

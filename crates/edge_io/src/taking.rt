@@ -3,9 +3,14 @@ use std::fmt::Debug;
 use thiserror::Error;
 
 /// Why a line was not taken: a rule refused it, or memory ran out.
-#[derive(Clone, Copy, Debug, PartialEq, Eq)]
+#[derive(Clone, Copy, Debug, PartialEq, Eq, Error)]
+#[error_bound(R: Debug)]
 pub enum TakeError<R> {
+    /// The first rule that the line fails.
+    #[error("the line fails the rule {:?}", .0)]
     Refused(R),
+    /// Memory was refused.
+    #[error("out of memory")]
     NoMemory,
 }
 
