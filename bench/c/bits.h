@@ -41,17 +41,20 @@ static void put_number(uint64_t value) {
 
 /* Numbers as bits. */
 
+#define MOST_BYTES 80 /* of a state, and eight more */
+
 static int width(uint64_t count) {
     int bits = 0;
     while ((uint64_t)1 << bits < count) bits++;
     return bits;
 }
 
+/* A number of at most 57 bits. Eight bytes are read from its first one on. */
 static inline uint64_t bits_at(const uint8_t *bytes, int at, int count) {
-    uint64_t value = 0;
-    int last = at + count;
-    for (int i = at / 8; i * 8 < last; i++) value = value << 8 | bytes[i];
-    return value >> (8 - last % 8) % 8 & (((uint64_t)1 << count) - 1);
+    uint64_t word;
+    if (count == 0) return 0;
+    memcpy(&word, bytes + at / 8, 8);
+    return __builtin_bswap64(word) << at % 8 >> (64 - count);
 }
 
 static void put_bits(uint8_t *bytes, int *at, uint64_t value, int count) {

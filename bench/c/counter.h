@@ -113,7 +113,7 @@ static void write_state(int v, const struct state *s, uint8_t *bytes) {
 #include "hex.h"
 
 static void put_state(int v, const struct state *s) {
-    uint8_t bytes[40];
+    uint8_t bytes[MOST_BYTES];
     write_state(v, s, bytes);
     put_hex(bytes, bytes_of[v]);
 }

@@ -18,7 +18,7 @@ static void read_all(void) {
 }
 
 static void put_cell(int v, const struct state *s) {
-    uint8_t bytes[64];
+    uint8_t bytes[MOST_BYTES];
     write_state(v, s, bytes);
     put_byte((char)(bytes_of[v] >> 8)), put_byte((char)bytes_of[v]);
     for (int i = 0; i < bytes_of[v]; i++) put_byte((char)bytes[i]);
@@ -47,7 +47,7 @@ int main(void) {
     char digits[257];
     struct state state, new = {0};
     read_all();
-    input = realloc(input, size + 1), input[size] = 0;
+    input = realloc(input, size + 9), input[size] = 0;
     if (sscanf((char *)input, "halving 1 group %d %d %llu end node 1 id %d state %256s end%n", &count,
                &borne, &by, &id, digits, &at) != 5 || at == 0) return 1;
     put_group(count, borne, by), end_plan(0, 0);

@@ -32,7 +32,7 @@ static void count_to(int v, uint64_t clock, struct state *s) {
 
 static void draw_all(int is_counting, uint64_t clock) {
     for (int v = 0; v < nodes; v++) {
-        uint8_t bytes[64];
+        uint8_t bytes[MOST_BYTES];
         for (int i = 0; i < bytes_of[v]; i++) bytes[i] = (uint8_t)drawn();
         if (is_counting) count_to(v, clock, &states[v]);
         else read_state(v, bytes, &states[v]);

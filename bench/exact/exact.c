@@ -150,7 +150,7 @@ static void answer(void) {
 }
 
 static void put_digits(int v, const struct state *s) {
-    uint8_t bytes[64];
+    uint8_t bytes[MOST_BYTES];
     write_state(v, s, bytes);
     for (int i = 0; i < bytes_of[v]; i++) printf("%02x", bytes[i]);
 }
