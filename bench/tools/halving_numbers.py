@@ -77,6 +77,15 @@ def node_bits(node, nodes, faults, modulus):
     return bits
 
 
+def output_place(node, nodes, faults, modulus):
+    """In how many bits the output of a node stands, and after how many: before the register of the
+    whole stands the number of a node that is alone in its lowest group."""
+    _, _, lowest, base = groups_of(node, nodes, faults, modulus)[-1]
+    if faults == 0:
+        return 0, width(modulus)
+    return width(base) if lowest == 0 else 0, width(modulus + 1)
+
+
 def bits_of(nodes, faults, modulus):
     return max(node_bits(node, nodes, faults, modulus) for node in range(nodes))
 
@@ -95,8 +104,15 @@ def table_of(nodes, faults, modulus):
         line = f'group {first} nodes {n} faults {f} modulus {c}'
         if f > 0:
             spares = n - sum(3 * half + 1 for half in split(f))
-            line += f' left {left_period(f)} right {right_period(f)} spares {spares}'
+            kings = [half + 1 for half in split(f)]
+            right = right_period(f)
+            line += f' share {right + 2} left {3 * kings[0]} right {right}'
+            line += f' kings {kings[0]} {kings[1]} spares {spares}'
         lines.append(line)
+    for node in range(nodes):
+        size = -(-node_bits(node, nodes, faults, modulus) // 8)
+        start, length = output_place(node, nodes, faults, modulus)
+        lines.append(f'node {node} bytes {size} output {start} {length}')
     return '\n'.join(lines + ['end']) + '\n'
 
 
