@@ -1,9 +1,14 @@
 /* Plays a script with a register of agreement and writes what its slots decide, as the word
- * `consensus` does.
+ * `consensus` does, of `counterlab`, or of `halvinglab`.
  *
  *   gcc -O2 -o consensus bench/c/consensus.c && time ./consensus < bench/inputs/consensus_twelve.txt
+ *   gcc -O2 -DHALVING -o halving_consensus bench/c/consensus.c
  */
+#ifdef HALVING
+#include "halving_script.h"
+#else
 #include "script.h"
+#endif
 
 static uint64_t inputs[MOST_NODES], decisions[MOST_NODES], slot;
 
@@ -20,13 +25,13 @@ static void read_agree(void) {
 }
 
 static void agree(int v, struct state *new) {
-    uint64_t turn = shown(&config[v], depth) % slot;
-    struct reg r = instruct((int)turn, config[v].regs[depth], values[depth], nodes, faults);
+    uint64_t turn = output_of(&config[v]) % slot;
+    struct reg r = instruct((int)turn, *layer_of(&config[v]), layer_heard(), nodes, faults);
     if (turn == slot - 1) {
         decisions[v] = r.value;
         r = (struct reg){inputs[v], 0};
     }
-    new->regs[depth] = r;
+    *layer_of(new) = r;
 }
 
 static void put_slot(uint64_t begin, const struct era *era) {
@@ -43,7 +48,7 @@ static void put_slot(uint64_t begin, const struct era *era) {
 static uint64_t lowest(const struct era *era) {
     int v = 0;
     while (v < nodes - 1 && era->is_faulty[v]) v++;
-    return shown(&config[v], depth);
+    return output_of(&config[v]);
 }
 
 int main(void) {

@@ -1,12 +1,8 @@
-/* What the programs of this folder share: lines, plans, states as bits, noise, and the step of a
+/* What the programs of this folder share of boosting plans: plans, states as bits, and the step of a
  * node. A node's own numbers of what it hears stand in columns, so that of all that a round's
  * receivers hear alike nothing is divided twice. Inputs are taken as accepted ones.
  */
-#include <stdint.h>
-#include <stdio.h>
-#include <stdlib.h>
-#include <string.h>
-#include <unistd.h>
+#include "bits.h"
 
 #define MOST_NODES 256
 #define MOST_LEVELS 5
@@ -35,38 +31,6 @@ static int widths[MOST_LEVELS + 1], base_width, bytes_of[MOST_NODES];
 /* low: from which level on a node takes part; first: of its group; block: its block or -1 */
 static int low[MOST_NODES], first[MOST_LEVELS][MOST_NODES], block[MOST_LEVELS][MOST_NODES];
 
-/* Output, gathered. */
-
-static char gathered[1 << 16];
-static size_t end;
-
-static void pass_on(void) {
-    size_t at = 0;
-    while (at < end) {
-        ssize_t taken = write(1, gathered + at, end - at);
-        if (taken <= 0) exit(7);
-        at += (size_t)taken;
-    }
-    end = 0;
-}
-
-static void put_byte(char byte) {
-    if (end == sizeof gathered) pass_on();
-    gathered[end++] = byte;
-}
-
-static void put_text(const char *text) {
-    while (*text) put_byte(*text++);
-}
-
-static void put_number(uint64_t value) {
-    char digits[20];
-    int from = 20;
-    do digits[--from] = (char)('0' + value % 10);
-    while ((value /= 10) > 0);
-    while (from < 20) put_byte(digits[from++]);
-}
-
 static void put_hex(const uint8_t *bytes, int count) {
     for (int i = 0; i < count; i++) {
         put_byte("0123456789abcdef"[bytes[i] >> 4]);
@@ -75,12 +39,6 @@ static void put_hex(const uint8_t *bytes, int count) {
 }
 
 /* Plans. */
-
-static int width(uint64_t count) {
-    int bits = 0;
-    while ((uint64_t)1 << bits < count) bits++;
-    return bits;
-}
 
 static void put_base(uint64_t count) {
     base = modulus = count;
@@ -121,13 +79,6 @@ static void end_plan(int registers_behind, uint64_t values) {
 
 /* States as bytes. */
 
-static uint64_t bits_at(const uint8_t *bytes, int at, int count) {
-    uint64_t value = 0;
-    int last = at + count;
-    for (int i = at / 8; i * 8 < last; i++) value = value << 8 | bytes[i];
-    return value >> (8 - last % 8) % 8 & (((uint64_t)1 << count) - 1);
-}
-
 static void read_state(int v, const uint8_t *bytes, struct state *s) {
     int at = 0;
     s->x = 0;
@@ -147,15 +98,6 @@ static void read_state(int v, const uint8_t *bytes, struct state *s) {
     }
 }
 
-static void put_bits(uint8_t *bytes, int *at, uint64_t value, int count) {
-    while (count > 0) {
-        int room = 8 - *at % 8, now = count < room ? count : room;
-        uint64_t part = value >> (count - now) & (((uint64_t)1 << now) - 1);
-        bytes[*at / 8] |= (uint8_t)(part << (room - now));
-        *at += now, count -= now;
-    }
-}
-
 static void write_state(int v, const struct state *s, uint8_t *bytes) {
     int at = 0;
     memset(bytes, 0, (size_t)bytes_of[v]);
@@ -171,7 +113,7 @@ static void write_state(int v, const struct state *s, uint8_t *bytes) {
 #include "hex.h"
 
 static void put_state(int v, const struct state *s) {
-    uint8_t bytes[40];
+    uint8_t bytes[MOST_BYTES];
     write_state(v, s, bytes);
     put_hex(bytes, bytes_of[v]);
 }

@@ -15,7 +15,7 @@ static void play_all(int shows) {
         look(t, era);
         if (shows && shown_from <= t && t <= shown_to) put_row(t, era);
         if (t == rounds) break;
-        era = play(t, era);
+        era = play(t, era, NULL);
     }
 }
 
@@ -44,11 +44,11 @@ static void sweep(uint64_t first, uint64_t count) {
         for (uint64_t at = 0; at <= rounds + 1; at++) {
             struct found *one = &found[at * MOST_ERAS + (uint64_t)i];
             if (one->runs == 0) continue;
-            printf("era %llu locked ", (unsigned long long)eras[i].at);
+            put_text("era "), put_number(eras[i].at), put_text(" locked ");
             if (at > rounds) put_text("none");
             else put_number(at);
-            printf(" runs %llu seed %llu\n", (unsigned long long)one->runs,
-                   (unsigned long long)one->seed);
+            put_text(" runs "), put_number(one->runs);
+            put_text(" seed "), put_number(one->seed), put_byte('\n');
         }
 }
 
@@ -56,9 +56,11 @@ int main(int count, char **words) {
     if (count != 1 && count != 3) return 2;
     read_input();
     read_plan();
+    end_plan(0, 0);
     read_script();
     begin_run();
     if (count == 3) sweep(strtoull(words[1], 0, 10), strtoull(words[2], 0, 10));
     else play_all(1), put_locks();
+    pass_on();
     return 0;
 }

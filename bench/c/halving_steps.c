@@ -1,5 +1,5 @@
 /* How long a step of the halving counter takes: draws states, and prints nanoseconds of processor time
- * for a step of each node in turn, where states are any and where all registers are locked.
+ * for a step of each node in turn, where all groups count together and where states are any.
  *
  *   gcc -O2 -o halving_steps bench/c/halving_steps.c
  *   ./halving_steps NODES FAULTS MODULUS STEPS
@@ -7,53 +7,62 @@
 #include "halving_counter.h"
 #include <time.h>
 
-#define CONFIGURATIONS 64
-
-static struct state heard[CONFIGURATIONS][MOST_NODES], new;
-static uint64_t seed = 1;
+static struct state states[MOST_NODES];
+static uint64_t seed = 88172645463325252u;
 
 static uint64_t drawn(void) {
     seed ^= seed << 13, seed ^= seed >> 7, seed ^= seed << 17;
     return seed >> 16;
 }
 
-static void draw_all(int is_locked) {
-    for (int c = 0; c < CONFIGURATIONS; c++) {
-        uint64_t common[MOST_LEVELS];
-        for (int l = 0; l < MOST_LEVELS; l++) common[l] = drawn();
-        for (int v = 0; v < whole.nodes; v++) {
-            uint8_t bytes[128];
-            for (int i = 0; i < bytes_of[v]; i++) bytes[i] = (uint8_t)drawn();
-            read_state(v, bytes, &heard[c][v]);
-            struct group g = whole, half;
-            for (; is_locked && g.faults > 0; g = half) {
-                heard[c][v].levels[g.level].value = common[g.level] % g.modulus;
-                heard[c][v].levels[g.level].marked = 1;
-                if (!half_of(&g, v, &half)) break;
-            }
-        }
+/* The state of node v when all its groups have counted to a clock. */
+static void count_to(int v, uint64_t clock, struct state *s) {
+    int depth = depth_of[v];
+    memset(s, 0, sizeof *s);
+    for (int j = 0; j < depth + is_alone[v]; j++) {
+        const struct level *l = &levels_of[v][j];
+        if (j == 0) s->top = clock % l->g.modulus;
+        else s->value[j] = (uint16_t)(clock % l->g.modulus);
+        if (j == depth) break;
+        uint64_t period = (uint64_t)l->left_period;
+        s->seen[j] = (uint16_t)((clock + period - 1) % period);
+        s->marked[j] = s->trusted[j] = 1;
     }
 }
 
-static double time_steps(long steps) {
-    uint64_t sum = 0;
-    clock_t start = clock();
-    for (long i = 0; i < steps; i++) {
-        step((int)(i % whole.nodes), heard[i % CONFIGURATIONS], &new);
-        sum += new.levels[0].age + new.levels[0].value;
+static void draw_all(int is_counting, uint64_t clock) {
+    for (int v = 0; v < nodes; v++) {
+        uint8_t bytes[MOST_BYTES];
+        for (int i = 0; i < bytes_of[v]; i++) bytes[i] = (uint8_t)drawn();
+        if (is_counting) count_to(v, clock, &states[v]);
+        else read_state(v, bytes, &states[v]);
+        hear(v, &states[v]);
     }
-    double taken = (double)(clock() - start) / CLOCKS_PER_SEC;
-    if (sum == 1) puts("");
-    return 1e9 * taken / (double)steps;
+}
+
+/* Nanoseconds of a step, over 64 configurations. */
+static double time_steps(int is_counting, long steps) {
+    static struct state new;
+    double taken = 0;
+    uint64_t sum = 0;
+    for (uint64_t clock_shown = 0; clock_shown < 64; clock_shown++) {
+        draw_all(is_counting, clock_shown);
+        clock_t start = clock();
+        for (long i = 0; i < steps / 64; i++) {
+            int v = (int)(i % nodes);
+            step(v, &states[v], &new);
+            sum += new.seen[0] + new.top;
+        }
+        taken += (double)(clock() - start) / CLOCKS_PER_SEC;
+    }
+    return sum == 1 ? 0 : 1e9 * taken / (double)(steps / 64 * 64);
 }
 
 int main(int count, char **words) {
     if (count != 5) return 2;
-    set_plan(atoi(words[1]), atoi(words[2]), strtoull(words[3], 0, 10));
-    draw_all(0);
-    double any = time_steps(atol(words[4]));
-    draw_all(1);
-    double locked = time_steps(atol(words[4]));
-    printf("%d nodes: %.0f ns, locked %.0f ns\n", whole.nodes, any, locked);
+    put_group(atoi(words[1]), atoi(words[2]), strtoull(words[3], 0, 10)), end_plan(0, 0);
+    double counting = time_steps(1, atol(words[4]));
+    double any = time_steps(0, atol(words[4]));
+    printf("%d nodes: counting %.0f ns, any %.0f ns\n", nodes, counting, any);
     return 0;
 }

@@ -5,7 +5,7 @@ static int digit(char c) {
 
 /* Reads a state of a node from hex digits; whether they are just so many. */
 static int read_hex(int v, const char *text, struct state *s) {
-    uint8_t bytes[64] = {0};
+    uint8_t bytes[MOST_BYTES] = {0};
     int count = 2 * bytes_of[v];
     for (int i = 0; i < count; i++) {
         if (digit(text[i]) < 0) return 0;

@@ -122,16 +122,15 @@ static void chacha(uint64_t number, uint64_t stream, uint32_t out[16]) {
 
 /* The state of node v in the noise of a stream, `turn` states from its begin. */
 static void noise(int v, struct stream *kept, uint64_t stream, uint64_t turn, struct state *s) {
-    uint8_t bytes[64];
+    uint8_t bytes[MOST_BYTES];
     int count = (bytes_of[v] + 3) / 4;
-    for (int i = 0; i < count; i++) {
-        uint64_t place = turn * (uint64_t)count + (uint64_t)i;
+    uint64_t place = turn * (uint64_t)count;
+    for (int i = 0; i < count; i++, place++) {
         if (kept->block_behind != place / 16 + 1) {
             chacha(place / 16, stream, kept->words);
             kept->block_behind = place / 16 + 1;
         }
-        for (int j = 0; j < 4; j++)
-            bytes[4 * i + j] = (uint8_t)(kept->words[place % 16] >> (8 * j));
+        memcpy(bytes + 4 * i, &kept->words[place % 16], 4); /* the low byte first */
     }
     read_state(v, bytes, s);
 }
@@ -235,7 +234,7 @@ static void lie(uint64_t t, int u, int v, struct state *s) {
         const struct rule *rule = &rules[i];
         if (rule->sender != u || t < rule->from || t > rule->to || !rule->hears[v]) continue;
         if (rule->kind == NOISE)
-            noise(u, &streams[u * nodes + v], 256 * (uint64_t)u + (uint64_t)v, t, s);
+            noise(u, &streams[v * nodes + u], 256 * (uint64_t)u + (uint64_t)v, t, s);
         else if (rule->kind == COPY) *s = copied(u, rule->node);
         else if (rule->kind == SHIFT) *s = shifted(u, rule->by);
         else *s = rule->told;

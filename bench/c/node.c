@@ -10,17 +10,19 @@
 #define MOST_PACKETS 1000000
 #define LONGEST_CELL 65537
 
-static char buffer[1 << 21], *next_byte = buffer, *held = buffer;
+#define ROOM (1 << 21)
+
+static char buffer[ROOM + 8], *next_byte = buffer, *held = buffer;
 
 /* Reads until so many bytes stand before the next one, or the input ends. */
 static int has(size_t count) {
     if ((size_t)(held - next_byte) >= count) return 1;
-    if (next_byte + LONGEST_CELL > buffer + sizeof buffer) {
+    if (next_byte + LONGEST_CELL > buffer + ROOM) {
         memmove(buffer, next_byte, (size_t)(held - next_byte));
         held -= next_byte - buffer, next_byte = buffer;
     }
     while ((size_t)(held - next_byte) < count) {
-        size_t room = (size_t)(buffer + sizeof buffer - held);
+        size_t room = (size_t)(buffer + ROOM - held);
         ssize_t got = read(0, held, room < 4096 ? room : 4096);
         if (got < 0) exit(6);
         if (got == 0) return 0;

@@ -43,6 +43,10 @@ static int are_locked(const struct era *era) {
 
 static uint64_t output_of(const struct state *s) { return shown(s, depth); }
 
+static struct reg *layer_of(struct state *s) { return &s->regs[depth]; }
+
+static const uint64_t *layer_heard(void) { return values[depth]; }
+
 /* Plays round t; a layer makes its part of each node's step. Gives the era behind the round. */
 static struct era *play(uint64_t t, struct era *era, void (*layer)(int v, struct state *new)) {
     for (int u = 0; u < nodes; u++) hear(u, &config[u]);

@@ -380,7 +380,7 @@ class Tried:
         """four_nodes.c against the same rounds by the plain step."""
         found = run([self.link("gcc", "four_nodes", at=FIRST)]).decode()
         plan = calls.halving_plan_of(4, 1, 10)
-        states = [b"\x3f\xff\xff", b"\x12\x34\x56", b"\x00\x14\x07", b"\xff\x00\x00"]
+        states = [b"\x3f\xff", b"\x12\x34", b"\x00\x14", b"\xff\x00"]
         rows = []
         for t in range(13):
             held = [calls.output(plan, v, states[v]) for v in range(3)]

@@ -12,46 +12,57 @@ from collections import namedtuple
 import counter
 from counter import ZERO, State, width
 
-REGISTERS = 4  # of a level: the king's value, the instruction, the age, and one that has only a mark
+REGISTERS = 2  # of a level: the phase king's, and what was seen, with the bit trusted as its mark
 
 Group = namedtuple("Group", "first nodes faults modulus register")
 
-LevelState = namedtuple("LevelState", "register instruction by_left age saw_left saw_right")
+LevelState = namedtuple("LevelState", "register seen trusted")
 
 
-def instructions_of(group):
-    """The instructions of all kings of a group, and the period of its right half."""
-    return 3 * (group.faults + 1)
+def faults_of(faults):
+    """How many faults the left half and the right half tolerate."""
+    left = 5 * faults // 13
+    return left, faults - 1 - left
+
+
+def right_period_of(group):
+    """The instructions of the right half's kings, three each, and what it counts by."""
+    return 3 * (faults_of(group.faults)[1] + 1)
+
+
+def right_share_of(group):
+    """How much of the left half's period is the right half's share."""
+    return right_period_of(group) + 2
 
 
 def left_period_of(group):
-    return 3 * instructions_of(group) - 1
+    """The right half's share, and three rounds for each of the left half's kings."""
+    return right_share_of(group) + 3 * (faults_of(group.faults)[0] + 1)
 
 
 def halves_of(group):
     """The left half and the right half of a group that tolerates a fault."""
-    left_faults = group.faults // 3
-    right_faults = group.faults - 1 - left_faults
-    left_nodes = 3 * left_faults + 1
-    register = group.register + REGISTERS
-    left = Group(group.first, left_nodes, left_faults, left_period_of(group), register)
-    first = group.first + left_nodes
-    return left, Group(first, 3 * right_faults + 1, right_faults, instructions_of(group), register)
+    left_faults, right_faults = faults_of(group.faults)
+    first, register = group.first, group.register + REGISTERS
+    left = Group(first, 3 * left_faults + 1, left_faults, left_period_of(group), register)
+    first += left.nodes
+    return left, Group(first, 3 * right_faults + 1, right_faults, right_period_of(group), register)
 
 
 def bound_of(faults):
     if faults == 0:
         return 0
-    group = Group(0, 0, faults, 0, 0)
-    left, right = halves_of(group)
-    return instructions_of(group) + 1 + max(
-        bound_of(left.faults) + 2 * left_period_of(group),
-        bound_of(right.faults) + 3 * instructions_of(group),
+    group = Group(0, 3 * faults + 1, faults, 0, 0)
+    left, right = faults_of(faults)
+    phases = (left + 1) // (right + 1) + 2
+    return max(
+        bound_of(left) + 2 * left_period_of(group),
+        bound_of(right) + phases * right_period_of(group) + 2,
     )
 
 
 def height_of(faults):
-    return 0 if faults == 0 else 1 + max(height_of(faults // 3), height_of(faults - 1 - faults // 3))
+    return 0 if faults == 0 else 1 + max(height_of(half) for half in faults_of(faults))
 
 
 def is_in(group, v):
@@ -64,73 +75,72 @@ def shown(group, state):
     return state.registers[group.register][0] or 0
 
 
+def shown_by(half, heard):
+    """What more than half of the nodes of a half show, 0 if they show no one number."""
+    outputs = [shown(half, heard[half.first + i]) for i in range(half.nodes)]
+    often = [output for output in set(outputs) if 2 * outputs.count(output) > half.nodes]
+    return often[0] % half.modulus if often else 0
+
+
 def level_state(group, state):
-    """What a state holds of a group's level; infinity stands for the most."""
-    register, instruction, age, right = state.registers[group.register :][:REGISTERS]
-    return LevelState(
-        register,
-        instructions_of(group) if instruction[0] is None else instruction[0],
-        instruction[1],
-        left_period_of(group) if age[0] is None else age[0],
-        age[1],
-        right[1],
-    )
+    """What a state holds of a group's level."""
+    register, (seen, trusted) = state.registers[group.register :][:REGISTERS]
+    return LevelState(register, seen or 0, trusted)
 
 
-def registers(group, level):
+def registers(level):
     """The registers that hold a level's state."""
-    waits = level.instruction >= instructions_of(group)
-    is_old = level.age >= left_period_of(group)
-    return [
-        level.register,
-        (None if waits else level.instruction, level.by_left),
-        (None if is_old else level.age, level.saw_left),
-        (0, level.saw_right),
-    ]
+    return [level.register, (level.seen, level.trusted)]
 
 
-def obeyed(group, own, values, instruction):
-    """The phase king's register after an instruction."""
+def obeyed(group, own, values, kind, king):
+    """The phase king's register after an instruction of a kind, of a king with this value."""
     quorum = group.nodes - group.faults
     value, mark = own
     same = values.count(value)
-    if instruction % 3 == 0:
+    if kind == 0:
         value = value if same >= quorum else None
-    elif instruction % 3 == 1:
+    elif kind == 1:
         often = [a for a in set(values) if a is not None and values.count(a) > group.faults]
         value, mark = min(often, default=None), same >= quorum
     else:
         if value is None or not mark:
-            value = values[instruction // 3] or 0
+            value = king or 0
         mark = True
     return (None if value is None else (value % group.modulus + 1) % group.modulus, mark)
 
 
-def sees(half, heard):
-    zeros = sum(shown(half, heard[half.first + i]) == 0 for i in range(half.nodes))
-    return zeros >= half.nodes - half.faults
+def is_backed(group, own, levels):
+    return sum(level.seen == own.seen for level in levels) >= group.nodes - group.faults
+
+
+def follows_left(group, own, backed):
+    """Whether a node follows the left half, which it trusts, in that half's share."""
+    return backed and own.trusted and own.seen >= right_share_of(group)
+
+
+def instruction_of(group, own, backed, heard):
+    """The number of the instruction that a node obeys, and the place of its king in the group."""
+    left, right = halves_of(group)
+    if follows_left(group, own, backed):
+        instruction = own.seen - right_share_of(group)
+        return instruction, instruction // 3
+    instruction = shown_by(right, heard)
+    return instruction, left.nodes + instruction // 3
 
 
 def level_after(group, v, heard):
     """What node v holds of a group's level after a round, from the states that it hears."""
     own = level_state(group, heard[v])
     levels = [level_state(group, heard[group.first + i]) for i in range(group.nodes)]
-    left, right = halves_of(group)
-    backed, echoed = group.nodes - group.faults, group.nodes - 2 * group.faults
-    says_left = sum(level.saw_left for level in levels)
-    says_right = sum(level.saw_right for level in levels)
-    busy = own.by_left and own.instruction + 1 < instructions_of(group)
-    fires_left = says_left >= backed and own.age == left_period_of(group)
-    fires_right = says_right >= backed and not busy
-    fires = fires_left or fires_right
     values = [level.register[0] for level in levels]
+    backed = is_backed(group, own, levels)
+    instruction, king = instruction_of(group, own, backed, heard)
+    seen = shown_by(halves_of(group)[0], heard)
     return LevelState(
-        obeyed(group, own.register, values, own.instruction),
-        0 if fires else min(own.instruction + 1, instructions_of(group)),
-        fires_left or (own.by_left and not fires_right),
-        1 if says_left >= echoed else min(own.age + 1, left_period_of(group)),
-        sees(left, heard),
-        sees(right, heard),
+        obeyed(group, own.register, values, instruction % 3, values[king]),
+        seen,
+        backed and seen == own.seen + 1 and (own.trusted or own.seen == 0),
     )
 
 
@@ -163,7 +173,7 @@ class Plan:
             if group.faults == 0:
                 base = group.modulus
             else:
-                moduli += [group.modulus, instructions_of(group), left_period_of(group), 1]
+                moduli += [group.modulus, left_period_of(group)]
         return base, moduli + [0] * (self.depth - len(moduli)) + self.behind
 
     def bits(self, v):
@@ -241,7 +251,7 @@ class Plan:
         for group in self.groups(v):
             if group.faults == 0:
                 return self.filled((heard[v].number % group.modulus + 1) % group.modulus, new)
-            new += registers(group, level_after(group, v, heard))
+            new += registers(level_after(group, v, heard))
         return self.filled(0, new)
 
 

@@ -7,33 +7,37 @@ their states take, and the table that `halvinglab plan` writes.
                                    the lines of its refusals, for some 300 plans; it stops at the
                                    first that differs
 
-Of F faults the first 3 (F / 3) + 1 nodes are the left half, the next 3 F_1 + 1 the right half, where
-F_1 = F - 1 - F / 3 (whole numbers), and all further nodes are spares.
+Of F faults the left half tolerates F_0 = 5 F / 13 and the right half F_1 = F - 1 - F_0 (whole
+numbers). The first 3 F_0 + 1 nodes are the left half, the next 3 F_1 + 1 the right half, and all
+further nodes are spares.
 """
 
 import subprocess
 import sys
 
 
-def instructions(faults):
-    return 3 * (faults + 1)
+def split(faults):
+    left = 5 * faults // 13
+    return left, faults - 1 - left
+
+
+def right_period(faults):
+    return 3 * (split(faults)[1] + 1)
 
 
 def left_period(faults):
-    return 3 * instructions(faults) - 1
-
-
-def split(faults):
-    left = faults // 3
-    return left, faults - 1 - left
+    """The right half's share of it, which is two rounds longer than that half's period, and three
+    rounds for each of the left half's kings."""
+    return right_period(faults) + 2 + 3 * (split(faults)[0] + 1)
 
 
 BOUNDS = [0]
 HEIGHTS = [0]
 for f in range(1, 86):
     left, right = split(f)
-    slower = max(BOUNDS[left] + 2 * left_period(f), BOUNDS[right] + 3 * instructions(f))
-    BOUNDS.append(slower + instructions(f) + 1)
+    by_left = BOUNDS[left] + 2 * left_period(f)
+    by_right = BOUNDS[right] + ((left + 1) // (right + 1) + 2) * right_period(f) + 2
+    BOUNDS.append(max(by_left, by_right))
     HEIGHTS.append(1 + max(HEIGHTS[left], HEIGHTS[right]))
 
 
@@ -56,21 +60,30 @@ def groups_of(node, nodes, faults, modulus):
             nodes, modulus, faults = 3 * left + 1, left_period(faults), left
         elif node < middle + 3 * right + 1:
             first, nodes = middle, 3 * right + 1
-            modulus, faults = instructions(faults), right
+            modulus, faults = right_period(faults), right
         else:
             return found
 
 
 def node_bits(node, nodes, faults, modulus):
-    """The bits of a node's state: at each level four registers, each a value below its modulus or
+    """The bits of a node's state: at each level two registers, each a value below its modulus or
     infinite, and a mark; and below all a number."""
     bits = 0
     for _, _, f, c in groups_of(node, nodes, faults, modulus):
         if f == 0:
             bits += width(c)
         else:
-            bits += sum(width(m + 1) + 1 for m in (c, instructions(f), left_period(f), 1))
+            bits += sum(width(m + 1) + 1 for m in (c, left_period(f)))
     return bits
+
+
+def output_place(node, nodes, faults, modulus):
+    """In how many bits the output of a node stands, and after how many: before the register of the
+    whole stands the number of a node that is alone in its lowest group."""
+    _, _, lowest, base = groups_of(node, nodes, faults, modulus)[-1]
+    if faults == 0:
+        return 0, width(modulus)
+    return width(base) if lowest == 0 else 0, width(modulus + 1)
 
 
 def bits_of(nodes, faults, modulus):
@@ -91,8 +104,15 @@ def table_of(nodes, faults, modulus):
         line = f'group {first} nodes {n} faults {f} modulus {c}'
         if f > 0:
             spares = n - sum(3 * half + 1 for half in split(f))
-            line += f' left {left_period(f)} right {instructions(f)} spares {spares}'
+            kings = [half + 1 for half in split(f)]
+            right = right_period(f)
+            line += f' share {right + 2} left {3 * kings[0]} right {right}'
+            line += f' kings {kings[0]} {kings[1]} spares {spares}'
         lines.append(line)
+    for node in range(nodes):
+        size = -(-node_bits(node, nodes, faults, modulus) // 8)
+        start, length = output_place(node, nodes, faults, modulus)
+        lines.append(f'node {node} bytes {size} output {start} {length}')
     return '\n'.join(lines + ['end']) + '\n'
 
 

@@ -6,7 +6,7 @@ that this script prints.
     python3 bench/tools/halving_steps.py
 """
 
-from halving_counter import LevelState, Plan, instructions_of, left_period_of, registers
+from halving_counter import LevelState, Plan, left_period_of, registers
 
 PLANS = [
     (1, 0, 7),
@@ -23,7 +23,7 @@ PLANS = [
 
 CASES = 40
 
-DENSITIES = [0, 2, 4, 1_000_003]  # how likely a node says that it saw a halving
+STRAYS = [1, 2, 8, 1_000_003]  # one time in how many a number is not that of the common clock
 
 WORD = (1 << 64) - 1
 
@@ -42,43 +42,35 @@ class Numbers:
         self.word = b ^ b << 17 & WORD
         return self.word >> 16
 
-    def saw(self, density):
+    def number(self, clock, strays, modulus):
         drawn = self.draw()
-        return drawn % 4 == 0 if density == 0 else drawn % density != 0
+        return (drawn // strays if drawn % strays == 0 else clock) % modulus
 
-    def value(self, modulus):
+    def value(self, clock, strays, modulus):
+        number = self.number(clock, strays, modulus)
         drawn = self.draw()
-        if drawn % 8 == 0:
-            return None
-        if drawn // 1024 % 2 == 0:
-            return drawn // 8 % min(modulus, 2)
-        return drawn // 2048 % modulus
+        return None if drawn % 3 == 0 and drawn // 4 % strays == 0 else number
 
-    def age(self, period):
-        drawn = self.draw()
-        return period if drawn % 2 == 0 else 1 + drawn // 2 % period
-
-    def number(self, modulus):
-        drawn = self.draw()
-        return 0 if drawn % 3 == 0 else drawn // 4 % modulus
-
-    def level_state(self, group, density):
+    def level_state(self, group, clock, strays):
+        before = (clock + left_period_of(group) - 1) & WORD
         return LevelState(
-            (self.value(group.modulus), self.draw() % 2 == 0),
-            self.draw() % (instructions_of(group) + 1),
-            self.draw() % 2 == 0,
-            self.age(left_period_of(group)),
-            self.saw(density),
-            self.saw(density),
+            (self.value(clock, strays, group.modulus), self.draw() % 2 == 0),
+            self.number(before, strays, left_period_of(group)),
+            self.draw() % 4 != 0,
         )
 
-    def state(self, plan, v, density):
+    def state(self, plan, v, clock, strays):
         drawn = []
         for group in plan.groups(v):
             if group.faults == 0:
-                return plan.filled(self.number(group.modulus), drawn)
-            drawn += registers(group, self.level_state(group, density))
+                return plan.filled(self.number(clock, strays, group.modulus), drawn)
+            drawn += registers(self.level_state(group, clock, strays))
         return plan.filled(0, drawn)
+
+    def states(self, plan, strays):
+        """States of all nodes, near to what they are when all has counted to one clock."""
+        clock = self.draw()
+        return [self.state(plan, v, clock, strays) for v in range(plan.nodes)]
 
 
 def digested(digest, state):
@@ -99,7 +91,7 @@ def main():
         for k in range(CASES):
             case += 1
             numbers = Numbers(case)
-            heard = [numbers.state(plan, v, DENSITIES[k % 4]) for v in range(nodes)]
+            heard = numbers.states(plan, STRAYS[k % 4])
             digest = digested(digest, plan.step(numbers.draw() % nodes, heard))
         print(f"{nodes} {faults} {modulus} {digest:#018x}")
 

@@ -1,16 +1,17 @@
 """Draws single steps of halving plans, for vectors.py. It is no part of the proved program.
 
-As many nodes have one value, and as many say that they saw a halving, as is just enough, or one less;
-ages are often the period or near it, and outputs of halves often 0.
+As many nodes have one value, and saw one number of the left half, as is just enough, or one less; what
+was seen is often 0, near the beginning of the left half's share or the end of its period, and the left
+half often shows the number after it, by just enough of its nodes or one less.
 """
 
 from halving_counter import (
     LevelState,
     halves_of,
-    instructions_of,
-    is_in,
     left_period_of,
     registers,
+    right_period_of,
+    right_share_of,
 )
 
 PLANS = [
@@ -27,64 +28,65 @@ def drawn_value(draws, modulus):
     return draws.one_of([None, 0, modulus - 1, 0, draws.below(modulus)])
 
 
-def drawn_values(draws, group):
+def spread(draws, group, many, first, second, other):
+    """So many nodes have a first number, and about as many a second one as may be faulty."""
+    size, faults = group.nodes, group.faults
+    more = many + draws.one_of([faults, faults + 1, size])
+    numbers = [first] * many + [second] * (more - many)
+    return draws.shuffled((numbers + [other() for _ in range(size)])[:size])
+
+
+def drawn_values(draws, group, wanted):
+    """The values of a group's registers, of which a half often shows the number that is wanted."""
     size, faults, modulus = group.nodes, group.faults, group.modulus
     first, second = drawn_value(draws, modulus), drawn_value(draws, modulus)
     many = draws.one_of([size, size - faults, size - faults - 1, faults + 1, faults])
-    more = many + draws.one_of([faults, faults + 1, size])
-    values = [first] * many + [second] * (more - many)
-    values = (values + [drawn_value(draws, modulus) for _ in range(size)])[:size]
-    return draws.shuffled(values)
+    if wanted is not None and draws.below(4) > 0:
+        first, many = wanted, draws.one_of([size, size // 2 + 1, size // 2])
+    return spread(draws, group, many, first, second, lambda: drawn_value(draws, modulus))
 
 
-def drawn_bits(draws, group):
-    """Of each node a bit, set at about as many as a halving needs to be backed or echoed."""
-    size, faults = group.nodes, group.faults
-    backed, echoed = size - faults, size - 2 * faults
-    many = draws.one_of([0, echoed - 1, echoed, backed - 1, backed, size])
-    return draws.shuffled([True] * many + [False] * (size - many))
+def drawn_clock(draws, group):
+    """What was seen of the left half."""
+    period, share = left_period_of(group), right_share_of(group)
+    return draws.one_of([0, 0, share - 1, share, share, period - 1, draws.below(period),
+                         share + draws.below(period - share)])
 
 
-def drawn_age(draws, period):
-    return draws.one_of([period, period, period - 1, 1, draws.below(period + 1)])
+def drawn_seen(draws, group, clock):
+    """What each node of a group saw: so many one number as back it, or one less."""
+    size, faults, period = group.nodes, group.faults, left_period_of(group)
+    many = draws.one_of([size, size, size - faults, size - faults, size - faults - 1])
+    near = draws.one_of([None, 0, (clock + 1) % period, (clock - 1) % period])
+    return spread(draws, group, many, clock, near, lambda: drawn_value(draws, period))
 
 
-def drawn_instruction(draws, last):
-    return draws.one_of([last, last - 1, last - 2, draws.below(last), draws.below(last)])
-
-
-def drawn_levels(draws, group):
+def drawn_levels(draws, group, wanted, clock):
     """What each node of a group holds of its level, by place."""
-    values = drawn_values(draws, group)
-    left, right = drawn_bits(draws, group), drawn_bits(draws, group)
+    values, seen = drawn_values(draws, group, wanted), drawn_seen(draws, group, clock)
     return [
-        LevelState(
-            (values[i], draws.below(2) == 1),
-            drawn_instruction(draws, instructions_of(group)),
-            draws.below(2) == 1,
-            drawn_age(draws, left_period_of(group)),
-            left[i],
-            right[i],
-        )
+        LevelState((values[i], draws.below(2) == 1), seen[i], draws.below(4) > 0)
         for i in range(group.nodes)
     ]
 
 
-def fill(draws, group, numbers, levels):
+def fill(draws, group, wanted, numbers, levels):
     """Draws the numbers and the registers of a group's nodes, those of its halves too."""
     if group.faults == 0:
-        for v in range(group.first, group.first + group.nodes):
-            numbers[v] = draws.one_of([0, 0, group.modulus - 1, draws.below(group.modulus)])
+        number = draws.one_of([0, group.modulus - 1, draws.below(group.modulus)])
+        numbers[group.first] = number if wanted is None or draws.below(4) == 0 else wanted
         return
-    for i, level in enumerate(drawn_levels(draws, group)):
-        levels[group.first + i] += registers(group, level)
-    for half in halves_of(group):
-        assert is_in(group, half.first)
-        fill(draws, half, numbers, levels)
+    clock = drawn_clock(draws, group)
+    for i, level in enumerate(drawn_levels(draws, group, wanted, clock)):
+        levels[group.first + i] += registers(level)
+    left, right = halves_of(group)
+    shows = draws.one_of([clock + 1, clock + 1, clock + 1, clock, 0]) % left_period_of(group)
+    fill(draws, left, shows, numbers, levels)
+    fill(draws, right, draws.below(right_period_of(group)), numbers, levels)
 
 
 def drawn_states(draws, plan):
     """States of all nodes, in bytes."""
     numbers, levels = [0] * plan.nodes, [[] for _ in range(plan.nodes)]
-    fill(draws, plan.whole, numbers, levels)
+    fill(draws, plan.whole, None, numbers, levels)
     return [plan.write(v, plan.filled(numbers[v], levels[v])) for v in range(plan.nodes)]

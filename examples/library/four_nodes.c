@@ -8,7 +8,7 @@ static const char *text = "halving 1\ngroup 4 1 10\nend\n";
 
 int main(void) {
     uint8_t states[4][COUNTERLAB_MOST_BYTES] = {
-        "\x3f\xff\xff", "\x12\x34\x56", "\x00\x14\x07", "\xff"};
+        "\x3f\xff", "\x12\x34", "\x00\x14", "\xff"};
     size_t sizes[4];
     for (uint32_t v = 0; v < 4; v++) {
         struct counterlab_answer bytes = counterlab_state_bytes(PLAN, v);

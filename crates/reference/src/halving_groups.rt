@@ -1,10 +1,10 @@
 //! Groups of nodes, and the halves in them. A plan is the group of all its nodes.
 
-use crate::plans::width;
+use crate::plans::{quotient, width};
 use crate::premises::MOST;
 
 /// How many levels of halves stand on a node at most: those of 85 faults.
-pub const MOST_LEVELS: usize = 9;
+pub const MOST_LEVELS: usize = 8;
 
 /// How many faults a group tolerates at most, and one more.
 const FAULTS: usize = 86;
@@ -49,14 +49,32 @@ impl Group {
         self.faults == 0
     }
 
-    /// How many instructions all its kings have.
-    pub fn instructions(&self) -> u64 {
-        self.faults.wrapping_add(1).wrapping_mul(3)
+    /// How many faults its left half tolerates.
+    fn left_faults(&self) -> u64 {
+        self.faults.wrapping_mul(5) / 13
     }
 
-    /// What its left half counts by.
+    /// How many faults its right half tolerates.
+    fn right_faults(&self) -> u64 {
+        let others = self.left_faults().wrapping_add(1);
+        self.faults.wrapping_sub(others)
+    }
+
+    /// What its right half counts by: three instructions for each of that half's kings.
+    pub fn right_period(&self) -> u64 {
+        self.right_faults().wrapping_add(1).wrapping_mul(3)
+    }
+
+    /// Of how many rounds of its left half's period the right half has its share.
+    pub fn right_share(&self) -> u64 {
+        self.right_period().wrapping_add(2)
+    }
+
+    /// What its left half counts by: the right half's share, and then three instructions for each
+    /// of the left half's kings.
     pub fn left_period(&self) -> u64 {
-        self.instructions().wrapping_mul(3).wrapping_sub(1)
+        let left_share = self.left_faults().wrapping_add(1).wrapping_mul(3);
+        self.right_share().wrapping_add(left_share)
     }
 
     /// The group of fewest nodes that tolerates so many faults.
@@ -69,7 +87,7 @@ impl Group {
 
     /// Its left half.
     pub fn left(&self) -> Group {
-        Group::fewest(self.first, self.faults / 3, self.left_period())
+        Group::fewest(self.first, self.left_faults(), self.left_period())
     }
 
     /// Its right half.
@@ -77,8 +95,8 @@ impl Group {
         let left = self.left();
         Group::fewest(
             left.first.wrapping_add(left.nodes),
-            self.faults.wrapping_sub(left.faults).wrapping_sub(1),
-            self.instructions(),
+            self.right_faults(),
+            self.right_period(),
         )
     }
 
@@ -136,10 +154,10 @@ impl Group {
         }
     }
 
-    /// Below what the finite values of the registers of its level are: that of the king, the
-    /// instruction, the age of the left halving, and one that is 0.
-    pub fn moduli(&self) -> [u64; 4] {
-        [self.modulus, self.instructions(), self.left_period(), 1]
+    /// Below what the finite values of the registers of its level are: that of the king, and what
+    /// its left half showed.
+    pub fn moduli(&self) -> [u64; 2] {
+        [self.modulus, self.left_period()]
     }
 
     /// How many bits the registers of its level take.
@@ -174,14 +192,21 @@ impl Group {
         self.bits(node).wrapping_add(7) / 8
     }
 
+    /// In how many phases of one king of the right half the left half may disturb it, and one more.
+    fn phases(&self) -> u64 {
+        let left = self.left_faults().wrapping_add(1);
+        let right = self.right_faults().wrapping_add(1);
+        quotient(left, right).wrapping_add(2)
+    }
+
     /// The bound of the group, from those of all that tolerate fewer faults.
     fn bound_over(&self, bounds: &[u64]) -> u64 {
         let bound = |half: Group| bounds.get(half.faults as usize).copied().unwrap_or(0);
-        let left = bound(self.left()).wrapping_add(self.left_period().wrapping_mul(2));
-        let right = bound(self.right()).wrapping_add(self.instructions().wrapping_mul(3));
-        left.max(right)
-            .wrapping_add(self.instructions())
-            .wrapping_add(1)
+        let left = self.left_period().wrapping_mul(2);
+        let right = self.right_period().wrapping_mul(self.phases());
+        let by_left = bound(self.left()).wrapping_add(left);
+        let by_right = bound(self.right()).wrapping_add(right).wrapping_add(2);
+        by_left.max(by_right)
     }
 
     /// The configuration from which all its correct nodes count.

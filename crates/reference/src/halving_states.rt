@@ -6,10 +6,9 @@ use crate::plans::{remainder, width};
 use crate::states::{Register, State as Kept, ZERO, ZERO_STATE as NOTHING_KEPT};
 use crate::steps::register as register_at;
 
-/// The registers of a level: that of the king; the instruction that comes, infinite if the node
-/// waits, and whether the left half began these; the age of the left halving, infinite from a period
-/// on, and whether it was seen; 0, and whether the right halving was seen.
-pub type Level = [Register; 4];
+/// The registers of a level: that of the king; and what the left half showed a round ago, with a
+/// mark if that is trusted.
+pub type Level = [Register; 2];
 
 /// A number, and the registers of each level, from the whole down. What a node lacks is 0, with no
 /// mark. After them, the registers of a layer and what a node of it keeps.
@@ -21,7 +20,7 @@ pub struct State {
 }
 
 /// A level that a node lacks, or that it starts with.
-pub const ZERO_LEVEL: Level = [ZERO; 4];
+pub const ZERO_LEVEL: Level = [ZERO; 2];
 
 /// The state of zeros.
 pub const ZERO_STATE: State = State {

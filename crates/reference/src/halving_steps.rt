@@ -10,11 +10,7 @@ use std::alloc::{AllocError, Global};
 /// The places of the registers of a level.
 const KING: usize = 0;
 
-const INSTRUCTION: usize = 1;
-
-const LEFT: usize = 2;
-
-const RIGHT: usize = 3;
+const SEEN: usize = 1;
 
 /// A register of the level of a state at a depth.
 fn register(state: &State, depth: usize, place: usize) -> Register {
@@ -49,11 +45,6 @@ pub fn locked_at(plan: &Group, state: &State) -> Option<u64> {
     }
 }
 
-/// Whether a node of a plan is in a state in which its instructions begin.
-pub fn has_fired(plan: &Group, state: &State) -> bool {
-    !plan.is_single() && register(state, 0, INSTRUCTION).value == Some(0)
-}
-
 /// The states of the nodes of a group.
 fn nodes_of<'a>(group: &Group, states: &'a [State]) -> &'a [State] {
     let first = group.first as usize;
@@ -61,86 +52,89 @@ fn nodes_of<'a>(group: &Group, states: &'a [State]) -> &'a [State] {
     states.get(first..end).unwrap_or(&[])
 }
 
-/// Whether the halving of a half at a depth is seen: so many of its nodes show 0 that only those that
-/// may be faulty do not.
-fn is_seen(half: &Group, depth: usize, heard: &[State]) -> bool {
-    let mut zeros = 0u64;
-    for state in nodes_of(half, heard) {
-        zeros = zeros.wrapping_add(u64::from(shown_in(half, depth, state) == 0));
+/// What more than half of the nodes of a half at a depth show, 0 if they show no one number.
+fn shown_by(half: &Group, depth: usize, heard: &[State]) -> u64 {
+    let nodes = nodes_of(half, heard);
+    for state in nodes {
+        let output = shown_in(half, depth, state);
+        let mut same = 0u64;
+        for other in nodes {
+            same = same.wrapping_add(u64::from(shown_in(half, depth, other) == output));
+        }
+        if same > half.nodes / 2 {
+            return remainder(output, half.modulus);
+        }
     }
-    zeros.wrapping_add(half.faults) >= half.nodes
+    0
 }
 
-/// How many nodes of a group say that they saw the halving of a half, whose register has this place.
-fn says(group: &Group, depth: usize, half: usize, heard: &[State]) -> u64 {
-    let mut says = 0u64;
+/// What a state says that the left half of a group at a depth showed a round ago.
+fn seen(state: &State, depth: usize) -> u64 {
+    register(state, depth, SEEN).value.unwrap_or(0)
+}
+
+/// Whether so many nodes of a group at a depth say what a node does of its left half that only those
+/// that may be faulty do not.
+fn is_backed(group: &Group, depth: usize, own: &State, heard: &[State]) -> bool {
+    let mut same = 0u64;
     for state in nodes_of(group, heard) {
-        says = says.wrapping_add(u64::from(register(state, depth, half).mark));
+        same = same.wrapping_add(u64::from(seen(state, depth) == seen(own, depth)));
     }
-    says
+    same.wrapping_add(group.faults) >= group.nodes
 }
 
-/// The register of the king after the instruction that comes, in a group of which this is heard.
+/// Whether a node of a group at a depth takes its instructions from the left half.
+fn follows_left(group: &Group, depth: usize, own: &State, heard: &[State]) -> bool {
+    let is_trusted = register(own, depth, SEEN).mark;
+    let is_left_share = seen(own, depth) >= group.right_share();
+    is_trusted && is_left_share && is_backed(group, depth, own, heard)
+}
+
+/// Whether a node of a plan that hears these states follows the left half of the plan.
+pub fn is_led_by_left(plan: &Group, node: u64, heard: &[State]) -> bool {
+    !plan.is_single() && follows_left(plan, 0, &state_of(heard, node), heard)
+}
+
+/// The instruction that a node of a group takes, if each of the group's nodes had three: those of
+/// the king at its place in the group.
+fn turn_of(group: &Group, depth: usize, own: &State, heard: &[State]) -> u64 {
+    if follows_left(group, depth, own, heard) {
+        return seen(own, depth).wrapping_sub(group.right_share());
+    }
+    let before = group.left().nodes.wrapping_mul(3);
+    let below = depth.wrapping_add(1);
+    before.wrapping_add(shown_by(&group.right(), below, heard))
+}
+
+/// The register of the king after the instruction that a node takes.
 fn king_after(
     alloc: Global,
     group: &Group,
     depth: usize,
-    own: &Level,
+    own: &State,
     heard: &[State],
 ) -> Result<Register, AllocError> {
-    let [king, instruction, _, _] = *own;
-    let turn = instruction.value.unwrap_or(group.instructions());
+    let turn = turn_of(group, depth, own, heard);
     let mut kings: Vec<Kept> = Vec::new(alloc);
     for state in nodes_of(group, heard) {
         let mut kept = NOTHING_KEPT;
         kept.put(0, register(state, depth, KING));
         kings.push(kept)?;
     }
+    let king = register(own, depth, KING);
     Ok(agreed(king, &kings, 0, group.faults, turn).raised(1, group.modulus))
 }
 
-/// A half of a group.
-#[derive(Clone, Copy)]
-enum Half {
-    Left,
-    Right,
-}
-
-/// For which half a node fires, if it does, in a group of which this is heard.
-fn fire_of(group: &Group, depth: usize, own: &Level, heard: &[State]) -> Option<Half> {
-    let [_, instruction, age, _] = *own;
-    let most = group.nodes.wrapping_sub(group.faults);
-    // another instruction is to come after the next
-    let goes_on = match instruction.value {
-        Some(next) => next.wrapping_add(1) < group.instructions(),
-        None => false,
-    };
-    let is_busy = instruction.mark && goes_on;
-    if says(group, depth, LEFT, heard) >= most && age.value.is_none() {
-        Some(Half::Left)
-    } else if says(group, depth, RIGHT, heard) >= most && !is_busy {
-        Some(Half::Right)
-    } else {
-        None
-    }
-}
-
-/// The number above another, infinity from `most` on.
-fn above(value: Option<u64>, most: u64) -> Option<u64> {
-    match value {
-        Some(value) if value.wrapping_add(1) < most => Some(value.wrapping_add(1)),
-        _ => None,
-    }
-}
-
-/// The age of the left halving after a round in which this is heard.
-fn age_after(group: &Group, depth: usize, own: &Level, heard: &[State]) -> Option<u64> {
-    let [_, _, age, _] = *own;
-    let few = group.nodes.wrapping_sub(group.faults.wrapping_mul(2));
-    if says(group, depth, LEFT, heard) >= few {
-        Some(1)
-    } else {
-        above(age.value, group.left_period())
+/// What the left half of a group at a depth shows now, with a mark if that is trusted: a node trusts
+/// it from 0 on, while it goes on by one and what it showed is backed.
+fn seen_after(group: &Group, depth: usize, own: &State, heard: &[State]) -> Register {
+    let before = seen(own, depth);
+    let now = shown_by(&group.left(), depth.wrapping_add(1), heard);
+    let goes_on = now == before.wrapping_add(1);
+    let was_trusted = before == 0 || register(own, depth, SEEN).mark;
+    Register {
+        value: Some(now),
+        mark: goes_on && was_trusted && is_backed(group, depth, own, heard),
     }
 }
 
@@ -152,31 +146,9 @@ fn level_after(
     node: u64,
     heard: &[State],
 ) -> Result<Level, AllocError> {
-    let own = state_of(heard, node).level(depth);
+    let own = state_of(heard, node);
     let king = king_after(alloc, group, depth, &own, heard)?;
-    let [_, instruction, _, _] = own;
-    let (next, by_left) = match fire_of(group, depth, &own, heard) {
-        Some(Half::Left) => (Some(0), true),
-        Some(Half::Right) => (Some(0), false),
-        None => (
-            above(instruction.value, group.instructions()),
-            instruction.mark,
-        ),
-    };
-    let below = depth.wrapping_add(1);
-    let next = Register {
-        value: next,
-        mark: by_left,
-    };
-    let left = Register {
-        value: age_after(group, depth, &own, heard),
-        mark: is_seen(&group.left(), below, heard),
-    };
-    let right = Register {
-        value: Some(0),
-        mark: is_seen(&group.right(), below, heard),
-    };
-    Ok([king, next, left, right])
+    Ok([king, seen_after(group, depth, &own, heard)])
 }
 
 /// The state of a node of a plan after a round in which it hears these states, its own among them.

@@ -34,59 +34,41 @@ impl Numbers {
         self.word.wrapping_shr(16)
     }
 
-    /// Whether a node says that it saw a halving.
-    fn saw(&mut self, density: u64) -> bool {
+    /// What a node shows of a group that has counted to the clock, or, one time in `strays`, another
+    /// number.
+    fn number(&mut self, clock: u64, strays: u64, modulus: u64) -> u64 {
         let drawn = self.draw();
-        if density == 0 {
-            drawn % 4 == 0
-        } else {
-            drawn % density != 0
-        }
-    }
-
-    /// A value of a register of the phase king.
-    fn value(&mut self, modulus: u64) -> Option<u64> {
-        let drawn = self.draw();
-        if drawn % 8 == 0 || modulus == 0 {
-            None
-        } else if drawn / 1024 % 2 == 0 {
-            Some(drawn / 8 % modulus.min(2))
-        } else {
-            Some(drawn / 2048 % modulus)
-        }
-    }
-
-    /// An age, which is often the period.
-    fn age(&mut self, period: u64) -> u64 {
-        let drawn = self.draw();
-        if drawn % 2 == 0 || period == 0 {
-            period
-        } else {
-            1 + drawn / 2 % period
-        }
-    }
-
-    /// The number of a lowest node, which is often 0.
-    fn number(&mut self, modulus: u64) -> u64 {
-        let drawn = self.draw();
-        if drawn % 3 == 0 || modulus == 0 {
+        if modulus == 0 || strays == 0 {
             0
+        } else if drawn % strays == 0 {
+            drawn / strays % modulus
         } else {
-            drawn / 4 % modulus
+            clock % modulus
         }
     }
 
-    fn level_state(&mut self, group: &Group, density: u64) -> LevelState {
+    /// A value of a register of the phase king, which is such a number or infinite.
+    fn value(&mut self, clock: u64, strays: u64, modulus: u64) -> Option<u64> {
+        let number = self.number(clock, strays, modulus);
+        let drawn = self.draw();
+        if drawn % 3 == 0 && strays != 0 && drawn / 4 % strays == 0 {
+            None
+        } else {
+            Some(number)
+        }
+    }
+
+    fn level_state(&mut self, group: &Group, clock: u64, strays: u64) -> LevelState
+        requires { 0 < group.now.faults }
+    {
+        let before = clock.wrapping_add(group.left_period()).wrapping_sub(1);
         LevelState {
             register: Reg {
-                a: self.value(group.modulus()),
+                a: self.value(clock, strays, group.modulus()),
                 d: self.draw() % 2 == 0,
             },
-            instruction: self.draw() % group.instructions().saturating_add(1).max(1),
-            begun_by_left: self.draw() % 2 == 0,
-            age: self.age(group.left_period()),
-            saw_left: self.saw(density),
-            saw_right: self.saw(density),
+            seen: self.number(before, strays, group.left_period()),
+            trusted: self.draw() % 4 != 0,
         }
     }
 
@@ -96,19 +78,20 @@ impl Numbers {
         rt: &impl Abort,
         group: &Group,
         node: u32,
-        density: u64,
+        clock: u64,
+        strays: u64,
         state: &mut NodeState,
     ) {
         group.facts();
         if group.faults() == 0 {
-            state.set_x(self.number(group.modulus()));
+            state.set_x(self.number(clock, strays, group.modulus()));
             return;
         }
-        let level_state = self.level_state(group, density);
-        assert!(rt; group.register() + 4 <= state.depth() && group.first() <= node);
+        let level_state = self.level_state(group, clock, strays);
+        assert!(rt; group.register() + 2 <= state.depth() && group.first() <= node);
         level_state.write(state, group);
         if let Some(half) = group.half_of(node) {
-            self.fill(rt, &half, node, density, state);
+            self.fill(rt, &half, node, clock, strays, state);
         }
     }
 
@@ -118,28 +101,30 @@ impl Numbers {
         rt: &impl Abort,
         plan: &HalvingPlan,
         node: u32,
-        density: u64,
+        clock: u64,
+        strays: u64,
         state: &mut NodeState,
     ) {
         clear(state.depth(), state);
-        self.fill(rt, &plan.whole(), node, density, state);
+        self.fill(rt, &plan.whole(), node, clock, strays, state);
     }
 }
 
-/// How likely nodes say that they saw a halving.
-pub(crate) const DENSITIES: [u64; 4] = [0, 2, 4, 1_000_003];
+/// One time in how many a number is another than that of the common clock.
+pub(crate) const STRAYS: [u64; 4] = [1, 2, 8, 1_000_003];
 
-/// Draws a state of each node, one after another.
+/// Draws a state of each node, one after another, all near to one clock.
 pub(crate) fn draw_all(
     rt: &impl Abort,
     numbers: &mut Numbers,
     plan: &HalvingPlan,
-    density: u64,
+    strays: u64,
     states: &mut [NodeState],
 ) {
+    let clock = numbers.draw();
     let mut node: u32 = 0;
     for state in states.iter_mut() {
-        numbers.state(rt, plan, node, density, state);
+        numbers.state(rt, plan, node, clock, strays, state);
         node = node.wrapping_add(1);
     }
 }

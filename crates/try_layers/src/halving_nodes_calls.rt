@@ -6,25 +6,25 @@ use std::test::Fail;
 use sync_types::Rule;
 
 /// Node 1 of four in the state of zeros, and a packet of states of zeros.
-const PACKET: &[u8] = b"halving 1\ngroup 4 1 10\nend\nnode 1\nid 1\nstate 000000\nend\n\
-    \x00\x03\x00\x00\x00\x00\x03\x00\x00\x00\x00\x03\x00\x00\x00\x00\x03\x00\x00\x00";
+const PACKET: &[u8] = b"halving 1\ngroup 4 1 10\nend\nnode 1\nid 1\nstate 0000\nend\n\
+    \x00\x02\x00\x00\x00\x02\x00\x00\x00\x02\x00\x00\x00\x02\x00\x00";
 
 /// The same with a packet that ends in the cell of node 2.
-const CUT: &[u8] = b"halving 1\ngroup 4 1 10\nend\nnode 1\nid 1\nstate 000000\nend\n\
-    \x00\x03\x00\x00\x00\x00\x03\x00\x00\x00\x00\x03\x00";
+const CUT: &[u8] = b"halving 1\ngroup 4 1 10\nend\nnode 1\nid 1\nstate 0000\nend\n\
+    \x00\x02\x00\x00\x00\x02\x00\x00\x00\x02\x00";
 
 /// An input, how it ends, and the bytes that are written.
 type Row<'a> = (&'a [u8], Result<u64, NodeError<LinePremise>>, &'a [u8]);
 
 const ROWS: [Row<'static>; 4] = [
-    (PACKET, Ok(1), b"\x00\x03\x00\x00\x00\x00\x03\x22\x20\xd0"),
+    (PACKET, Ok(1), b"\x00\x02\x00\x00\x00\x02\x44\x00"),
     (
         CUT,
         Err(NodeError::Cut {
             packet: 0,
             sender: 2,
         }),
-        b"\x00\x03\x00\x00\x00",
+        b"\x00\x02\x00\x00",
     ),
     (
         b"halving 1\ngroup 4 1 10\nend\nnode 1\nid 4\n",

@@ -41,14 +41,14 @@ fn plans_are_refused_by_their_first_premise(rt: HostRuntime) {
 /// Nodes, faults, bound, and how many registers a state has.
 const NUMBERS: [(u64, u64, u64, usize); 9] = [
     (1, 0, 0, 0),
-    (4, 1, 41, 4),
-    (7, 2, 78, 8),
-    (10, 3, 124, 8),
-    (13, 4, 145, 12),
-    (16, 4, 145, 12),
-    (31, 10, 357, 16),
-    (118, 39, 1356, 28),
-    (256, 85, 3008, 36),
+    (4, 1, 16, 2),
+    (7, 2, 30, 4),
+    (10, 3, 44, 4),
+    (13, 4, 50, 6),
+    (16, 4, 50, 6),
+    (31, 10, 120, 8),
+    (118, 39, 414, 14),
+    (256, 85, 854, 16),
 ];
 
 #[test]
@@ -62,21 +62,21 @@ fn plans_have_these_bounds(rt: HostRuntime) {
     }
 }
 
-/// Whether node 5 of thirteen, which is the right half of the right half of the right half, has its
+/// Whether node 5 of thirteen, which is the left half of the right half of the right half, has its
 /// moduli.
 fn has_these_moduli(plan: &HalvingPlan) -> bool {
-    let moduli = [10, 15, 44, 1, 15, 9, 26, 1, 9, 6, 17, 1];
-    for i in 0..12 {
+    let moduli = [10, 17, 9, 11, 6, 8];
+    for i in 0..6 {
         if plan.modulus_of(5, i) != Some(moduli[i]) {
             return false;
         }
     }
-    plan.base_of(5) == 17 && plan.modulus_of(5, 12).is_none()
+    plan.base_of(5) == 8 && plan.modulus_of(5, 6).is_none()
 }
 
 #[test]
 fn nodes_have_their_fields(rt: HostRuntime) {
     let plan = plan_of(&rt, 13, 4, 10);
     assert!(rt; has_these_moduli(&plan));
-    assert!(rt; plan.base_of(12) == 1 && plan.modulus_of(12, 4).is_none());
+    assert!(rt; plan.base_of(12) == 1 && plan.modulus_of(12, 2).is_none());
 }

@@ -22,7 +22,7 @@ fn a_part_is_read_at_the_front(rt: HostRuntime) {
         return;
     };
     assert!(rt; Ok(plan) == HalvingPlan::new(13, 4, 10));
-    assert!(rt; (bytes, lines) == (33, 4));
+    assert!(rt; (bytes, lines) == (34, 4));
 }
 
 /// Texts, and the first line that fails with its premise.

@@ -26,8 +26,8 @@ fn a_plan_is_read(rt: HostRuntime) {
     assert!(rt; is_four(counter_in(rt.alloc(), FOUR), 576));
     assert!(rt; state_bytes(rt.alloc(), FOUR, 2) == Ok(2));
     assert!(rt; state_bytes(rt.alloc(), FOUR, 3) == Ok(1));
-    assert!(rt; is_four(counter_in(rt.alloc(), HALVING), 41));
-    assert!(rt; state_bytes(rt.alloc(), HALVING, 0) == Ok(3));
+    assert!(rt; is_four(counter_in(rt.alloc(), HALVING), 16));
+    assert!(rt; state_bytes(rt.alloc(), HALVING, 0) == Ok(2));
 }
 
 #[test]

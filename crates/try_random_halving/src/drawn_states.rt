@@ -4,6 +4,7 @@ use crate::calling::bytes_of;
 use crate::draws::Draws;
 use reference::halving_groups::Group;
 use reference::halving_states::{State, ZERO_STATE, shifted, state_of};
+use reference::plans::remainder;
 use reference::states::Register;
 use std::alloc::AllocError;
 
@@ -12,9 +13,26 @@ use std::alloc::AllocError;
 pub enum Lies {
     /// They say any bytes, to each node others.
     Noise,
-    /// They say what a node has, or what it would have some rounds later, and say at times that
-    /// they saw what they did not.
+    /// They say what a node has, or what it would have some rounds later, at times with other marks.
     TwoFaced,
+}
+
+/// A state whose values are taken modulo what a node of a plan counts by.
+fn wrapped(plan: &Group, node: u64, state: &State) -> State {
+    let mut wrapped = *state;
+    wrapped.x = remainder(state.x, plan.base_of(node).unwrap_or(1));
+    for (depth, level) in plan.levels_of(node).iter().enumerate() {
+        if let Some(group) = level {
+            let mut registers = state.level(depth);
+            for (register, modulus) in registers.iter_mut().zip(&group.moduli()) {
+                if let Some(value) = register.value {
+                    register.value = Some(remainder(value, *modulus));
+                }
+            }
+            wrapped.put(depth, registers);
+        }
+    }
+    wrapped
 }
 
 impl Draws {
@@ -40,6 +58,31 @@ impl Draws {
         }
     }
 
+    /// A state of a node whose groups have counted so many rounds.
+    fn counted(&mut self, rounds: u64) -> State {
+        let mut state = ZERO_STATE;
+        state.x = rounds;
+        for level in &mut state.levels {
+            for (register, before) in level.iter_mut().zip(&[0, 1]) {
+                *register = Register {
+                    value: Some(rounds.wrapping_sub(*before)),
+                    mark: !self.once_in(4),
+                };
+            }
+        }
+        state
+    }
+
+    /// A state of any kind, or one that was counted.
+    fn centre(&mut self) -> State {
+        if self.once_in(2) {
+            self.near_state(&ZERO_STATE, 1)
+        } else {
+            let rounds = self.between(1, 1 << 20);
+            self.counted(rounds)
+        }
+    }
+
     /// A state near to another: one time in `once_in` a number or register is another.
     pub fn near_state(&mut self, other: &State, once_in: u64) -> State {
         let mut state = *other;
@@ -59,12 +102,13 @@ impl Draws {
     /// A state of each node of a plan, all near to one.
     pub fn near_states(&mut self, plan: &Group) -> Result<Vec<State>, AllocError> {
         let mut states = Vec::new(self.alloc);
-        let centre = self.near_state(&ZERO_STATE, 1);
+        let centre = self.centre();
         for node in 0..plan.nodes {
             let mut state = self.near_state(&centre, 10);
             for register in 0..plan.behind {
                 state.layer.put(register, self.register());
             }
+            let state = wrapped(plan, node, &state);
             states.push(shifted(plan, node, &state, 0))?;
         }
         Ok(states)

@@ -20,32 +20,32 @@ pub struct Row<'a> {
 }
 
 /// How many bytes the header, a packet and a cell have.
-const HEADER: usize = 55;
+const HEADER: usize = 54;
 
-const PACKET: usize = 20;
+const PACKET: usize = 16;
 
-const CELL: usize = 5;
+const CELL: usize = 4;
 
 /// The node in the state of zeros, and a packet of states of zeros.
 pub const ONE_PACKET: Row<'static> = Row {
     name: "one packet",
-    input: b"halving 1\ngroup 4 1 10\nend\nnode 1\nid 1\nstate 000000\nend\n\
-        \x00\x03\x00\x00\x00\x00\x03\x00\x00\x00\x00\x03\x00\x00\x00\x00\x03\x00\x00\x00",
+    input: b"halving 1\ngroup 4 1 10\nend\nnode 1\nid 1\nstate 0000\nend\n\
+        \x00\x02\x00\x00\x00\x02\x00\x00\x00\x02\x00\x00\x00\x02\x00\x00",
     ended: Ok(1),
-    answer: b"\x00\x03\x00\x00\x00\x00\x03\x22\x20\xd0",
+    answer: b"\x00\x02\x00\x00\x00\x02\x44\x00",
 };
 
 const ROWS: [Row<'static>; 4] = [
     ONE_PACKET,
     Row {
         name: "a packet that is cut",
-        input: b"halving 1\ngroup 4 1 10\nend\nnode 1\nid 1\nstate 000000\nend\n\
-            \x00\x03\x00\x00\x00\x00\x03\x00\x00\x00\x00\x03\x00",
+        input: b"halving 1\ngroup 4 1 10\nend\nnode 1\nid 1\nstate 0000\nend\n\
+            \x00\x02\x00\x00\x00\x02\x00\x00\x00\x02\x00",
         ended: Err(NodeError::Cut {
             packet: 0,
             sender: 2,
         }),
-        answer: b"\x00\x03\x00\x00\x00",
+        answer: b"\x00\x02\x00\x00",
     },
     Row {
         name: "no such node",

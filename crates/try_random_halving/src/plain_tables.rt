@@ -1,6 +1,7 @@
 //! The tables of plans, written plainly.
 
 use reference::halving_groups::Group;
+use reference::plans::width;
 use reference::texts::Text;
 use std::alloc::{AllocError, Global};
 
@@ -29,11 +30,30 @@ fn write_group(out: &mut Text, group: &Group) {
     out.put(" faults", &[group.faults]);
     out.put(" modulus", &[group.modulus]);
     if !group.is_single() {
-        out.put(" left", &[group.left().modulus]);
-        out.put(" right", &[group.right().modulus]);
+        let [left, right] = [group.left(), group.right()];
+        let share = left.modulus.wrapping_sub(group.right_share());
+        out.put(" share", &[group.right_share()]);
+        out.put(" left", &[share]);
+        out.put(" right", &[right.modulus]);
+        let kings = [left.faults.wrapping_add(1), right.faults.wrapping_add(1)];
+        out.put(" kings", &kings);
         out.put(" spares", &[group.spares()]);
     }
     out.word("\n");
+}
+
+/// Writes the line of a node: what it shows stands after its number, which it has if it is alone in
+/// its lowest group, or is its number.
+fn write_node(out: &mut Text, plan: &Group, node: u64) {
+    out.put("node", &[node]);
+    out.put(" bytes", &[plan.bytes(node)]);
+    let place = if plan.is_single() {
+        [0, width(plan.modulus)]
+    } else {
+        let number = width(plan.base_of(node).unwrap_or(1));
+        [number, width(plan.modulus.wrapping_add(1))]
+    };
+    out.line(" output", &place);
 }
 
 /// The groups of a plan, each before those in it, and the left half before the right one.
@@ -69,6 +89,9 @@ pub fn table_of(alloc: Global, plan: &Group) -> Result<String, AllocError> {
     out.line(" bytes", &[bytes]);
     for group in &groups {
         write_group(&mut out, group);
+    }
+    for node in 0..plan.nodes {
+        write_node(&mut out, plan, node);
     }
     out.word("end\n");
     out.end()?;

@@ -4,7 +4,7 @@ use crate::calling::{Node, bytes_of};
 use crate::draws::Draws;
 use reference::halving_groups::Group;
 use reference::halving_states::{State, state_of};
-use reference::halving_steps::{has_fired, stepped};
+use reference::halving_steps::{is_led_by_left, stepped};
 use reference::halving_texts::text_of;
 use reference::nodes::put_cell;
 use std::alloc::{AllocError, Global};
@@ -27,11 +27,12 @@ const PLANS: [(u64, u64, u64); 8] = [
     (256, 85, 12),
 ];
 
-/// The steps that were tried: how many are right, and in how many of these the node fired.
+/// The steps that were tried: how many are right, and in how many of these the node follows the left
+/// half.
 #[derive(Clone, Copy)]
 struct Steps {
     right: u64,
-    fires: u64,
+    led: u64,
 }
 
 /// The packet of the nodes of a plan in some states.
@@ -70,14 +71,15 @@ fn try_step(draws: &mut Draws, plan: &Group, steps: &mut Steps) -> anyhow::Resul
     let hearing = hearing(draws.alloc, plan, node, &states, &next)?;
     if hearing.is_right(draws.alloc)? {
         steps.right = steps.right.wrapping_add(1);
-        steps.fires = steps.fires.wrapping_add(u64::from(has_fired(plan, &next)));
+        let is_led = is_led_by_left(plan, node, &states);
+        steps.led = steps.led.wrapping_add(u64::from(is_led));
     }
     Ok(())
 }
 
 /// Tries steps with a plan.
 fn try_plan(rt: &HostRuntime, draws: &mut Draws, plan: &Group) -> anyhow::Result<()> {
-    let mut steps = Steps { right: 0, fires: 0 };
+    let mut steps = Steps { right: 0, led: 0 };
     for _ in 0..STEPS {
         try_step(draws, plan, &mut steps)?;
     }
@@ -87,9 +89,9 @@ fn try_plan(rt: &HostRuntime, draws: &mut Draws, plan: &Group) -> anyhow::Result
         modulus,
         ..
     } = *plan;
-    let Steps { right, fires } = steps;
+    let Steps { right, led } = steps;
     print!(rt; "{nodes} nodes, {faults} faults, modulus {modulus}: ")?;
-    println!(rt; "{right} of {STEPS} steps agree, {fires} of them fire")?;
+    println!(rt; "{right} of {STEPS} steps agree, {led} of them follow the left half")?;
     Ok(())
 }
 
