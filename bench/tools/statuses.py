@@ -76,13 +76,13 @@ def told(code, words, text, begin):
 
 
 def command_words():
-    """How `counterlab` tells the words of the table of `outcomes`, which README.md has too."""
+    """How `counterlab` tells the words of the table of `outcomes`, which docs/FORMATS.md has too."""
     table = (CRATES / "outcomes" / "specs" / "Commands.antt").read_text()
     words = [*re.findall(r'row \(codes "(\w+)"\)', table), "demo SEED"]
-    rows = (TOP / "README.md").read_text().split("| word | reads | writes |")[1].split("\n\n")[0]
+    rows = (TOP / "docs" / "FORMATS.md").read_text().split("| word | reads | writes |")[1].split("\n\n")[0]
     told = [row.split("|")[1].replace("`", "").strip() for row in rows.splitlines()[2:]]
     if sorted(words) != sorted(told):
-        sys.exit("statuses: README.md has other words than the table of outcomes")
+        sys.exit("statuses: docs/FORMATS.md has other words than the table of outcomes")
     line = f"one of {', '.join(words[:-1])}, or {words[-1]}; the words are in `man counterlab`\n"
     return line.encode()
 
