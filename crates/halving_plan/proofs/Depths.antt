@@ -3,7 +3,7 @@ use Rattle.std.proofs.Common.{◌+◌, ◌<◌, ◌≤◌, length, arith}
 use Rattle.sync_types.specs.States.{State}
 use Rattle.halving_plan.specs.Groups.{HalvingGroup, left_of, right_of}
 use Rattle.halving_plan.proofs.Fitting.{two_before_end, left_end, right_end}
-use Rattle.halving_plan.specs.MachineGroups.{HasGroup}
+use Rattle.halving_plan.specs.GroupStates.{HasGroup}
 
 pub two_deep : (group : HalvingGroup) (s : State) → 0 < group.faults → HasGroup group s
     → group.register + 2 ≤ length s.registers

@@ -16,7 +16,7 @@ use Rattle.halving_plan.proofs.States.{long, fields_most}
 use Rattle.halving_plan.specs.Plans.{HalvingNumbers, IsAccepted, tree_of}
 use Rattle.halving_plan.specs.Laws.{machine_in}
 use Rattle.halving_plan.proofs.Sound.{nodes_are, accepted_are_sound}
-use Rattle.halving_plan.specs.MachineGroups.{CanHear, IsDeep}
+use Rattle.halving_plan.specs.GroupStates.{CanHear, IsDeep}
 use Rattle.halving_plan.specs.Kept.{IsValidHalvingMachine}
 
 -- one node has no register that shows locks, and each other tree has the first one

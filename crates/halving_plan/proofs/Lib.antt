@@ -4,9 +4,9 @@ pub mod Made
 pub mod Alike
 pub mod Lists
 pub mod Stretches
-pub mod HalvingMachineWritten
+pub mod WrittenStates
 pub mod Depths
-pub mod HalvingMachineHeard
+pub mod GroupHeard
 pub mod Numbers
 pub mod LevelStates
 pub mod Ranges
@@ -38,6 +38,7 @@ pub mod GroupFields
 pub mod Sound
 pub mod GroupSizes
 pub mod Most
-pub mod Written
+pub mod WrittenBits
 pub mod Examples
 pub mod Lead
+pub mod OutputPlaces

@@ -5,7 +5,7 @@ use Rattle.std.proofs.Common.{get_or, count_by, refl, sym, ap, ap₂, ◌∙◌,
 use Rattle.std.proofs.lemmas.List.{drop-take, take-take, drop-drop, take-map, drop-map, get_or-take}
 use Rattle.std.proofs.lemmas.List.{get_or-drop, length-take-le, length-drop}
 use Rattle.std.proofs.lemmas.List.Sums.{sum_by-cons, sum_by_more}
-use Rattle.halving_plan.specs.MachineGroups.{section}
+use Rattle.halving_plan.specs.GroupStates.{section}
 
 pub map_map : {X Y Z : Type 0} (f : Y → Z) (g : X → Y) (xs : List X)
     → map f (map g xs) ≡ map (λ x. f (g x)) xs

@@ -7,21 +7,21 @@ use Rattle.std.proofs.lemmas.Bool.{cases_lt, lt-ltb, le-ltb, ltb-true, ltb-false
 use Rattle.std.proofs.lemmas.List.Sums.{sum_by-cons}
 use Rattle.construction.specs.Widths.{width}
 use Rattle.halving_plan.specs.Halves.{Halves, left_period, right_period}
-use Rattle.halving_plan.specs.Trees.{Tree, One, Split, tree_nodes, tree_for}
-use Rattle.halving_plan.specs.Trees.{halves_of}
+use Rattle.halving_plan.specs.Trees.{Tree, One, Split, tree_nodes, halves_of}
 use Rattle.halving_plan.specs.Runs.{Fields, fields_in}
 use Rattle.halving_plan.specs.Plans.{HalvingNumbers, IsAccepted, tree_of}
 use Rattle.halving_plan.proofs.GroupFields.{with_level, no_fields}
-use Rattle.halving_plan.proofs.Numbers.{nodes_of_tree}
+use Rattle.halving_plan.proofs.Sound.{nodes_are}
 use Rattle.halving_plan.specs.Sizes.{register_bits, fields_bits, level_bits, most_bits, IsMost}
 use Rattle.halving_plan.specs.Sizes.{BitsAreMost}
 
 -- no bits hold the one value that there is
-width_one : width 1 ≡ 0
+pub width_one : width 1 ≡ 0
 unfolding width
 width_one = refl
 
-with_level_bits : (halves : Halves) (c : ℕ) (below : Fields)
+-- two registers more
+pub with_level_bits : (halves : Halves) (c : ℕ) (below : Fields)
     → fields_bits (with_level halves c below) ≡ level_bits halves c + fields_bits below
 with_level_bits halves c below =
     omega (
@@ -40,8 +40,8 @@ module _ (left right : Tree) (spares c : ℕ) where
   abbrev m : ℕ
   m = tree_nodes right
 
-  abbrev Tree : Tree
-  Tree = Split left right spares
+  abbrev whole : Tree
+  whole = Split left right spares
 
   abbrev below_by : (v : ℕ) (first second : Bool) → Fields
   below_by v first second =
@@ -53,7 +53,7 @@ module _ (left right : Tree) (spares c : ℕ) where
   below_at v = below_by v (nat_lt v n) (nat_lt v (n + m))
 
   bits_at : (v : ℕ)
-      → fields_bits (fields_in Tree c v) ≡ level_bits halves c + fields_bits (below_at v)
+      → fields_bits (fields_in whole c v) ≡ level_bits halves c + fields_bits (below_at v)
   bits_at v = with_level_bits halves c (below_at v)
 
   module _ (most_left : IsMost (λ v. fields_bits (fields_in left (left_period halves) v)) n
@@ -73,7 +73,7 @@ module _ (left right : Tree) (spares c : ℕ) where
         let fits = most_right.each (v - n) (omega (arith, from, to)) in omega (arith, fits)
     below_most v false false is or = omega (arith, width_one)
 
-    each_most : (v : ℕ) → fields_bits (fields_in Tree c v) ≤ most_bits Tree c
+    each_most : (v : ℕ) → fields_bits (fields_in whole c v) ≤ most_bits whole c
     each_most v =
         let fits = below_most v (nat_lt v n) (nat_lt v (n + m)) refl refl in
         omega (arith, bits_at v, fits)
@@ -89,8 +89,8 @@ module _ (left right : Tree) (spares c : ℕ) where
         ∙ ap (λ b. below_by (n + v) false b) (lt-ltb (n + v) (n + m) (omega (arith, lt)))
         ∙ ap (fields_in right (right_period halves)) place
 
-    most_split : IsMost (λ v. fields_bits (fields_in Tree c v)) (tree_nodes Tree)
-        (most_bits Tree c)
+    most_split : IsMost (λ v. fields_bits (fields_in whole c v)) (tree_nodes whole)
+        (most_bits whole c)
     most_split =
         elim
         (cases_lt (most_bits left (left_period halves)) (most_bits right (right_period halves))) [
@@ -131,19 +131,8 @@ most_in (Split left right spares) c =
     most_split left right spares c (most_in left (left_period halves))
     (most_in right (right_period halves))
 
-nodes_by : (n f : ℕ) → 3 * f < n → (f ≡ 0 → n ≡ 1)
-    → tree_nodes (tree_for f (n - (3 * f + 1))) ≡ n
-nodes_by n zero quorum single = omega (arith, single refl)
-nodes_by n (suc f) quorum single =
-    omega (arith, nodes_of_tree (suc f) (n - (3 * suc f + 1)) (omega arith), quorum)
-
--- the tree of a plan has all nodes
-pub nodes_of_plan : (plan : HalvingNumbers) → IsAccepted plan
-    → tree_nodes (tree_of plan) ≡ plan.nodes
-nodes_of_plan plan accepted = nodes_by plan.nodes plan.faults accepted.quorum accepted.single
-
 pub bits_are_most : BitsAreMost
 bits_are_most plan accepted =
     subst (λ n. IsMost (λ v. fields_bits (fields_in (tree_of plan) plan.modulus v)) n
-    (most_bits (tree_of plan) plan.modulus)) (nodes_of_plan plan accepted)
+    (most_bits (tree_of plan) plan.modulus)) (nodes_are plan accepted)
     (most_in (tree_of plan) plan.modulus)

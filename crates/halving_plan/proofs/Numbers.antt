@@ -79,15 +79,15 @@ of_faults left right = record {
 }
 
 -- the right half has two phases of a king, or three if it is no larger than the left one
-pub fewer_turns : (left right : ℕ) → left < right
+pub fewer_phases : (left right : ℕ) → left < right
     → right_wait (of_faults left right) ≡ 2 * instructions right + 2
-fewer_turns left right less =
+fewer_phases left right less =
     let none : (left + 1) / (right + 1) ≡ 0 = div-eq_of_lt (omega arith) in
     ap (λ k. (k + 2) * instructions right + 2) none
 
-pub same_turns : (left right : ℕ) → left ≡ right
+pub same_phases : (left right : ℕ) → left ≡ right
     → right_wait (of_faults left right) ≡ 3 * instructions right + 2
-same_turns left right same =
+same_phases left right same =
     let one : (right + 1) / (right + 1) ≡ 1 = div_self (omega arith) in
     ap (λ l. ((l + 1) / (right + 1) + 2) * instructions right + 2) same
     ∙ ap (λ k. (k + 2) * instructions right + 2) one
@@ -96,9 +96,9 @@ same_turns left right same =
 right_fast : (f : ℕ) → 0 < f
     → 16 * right_part f + right_wait (of_faults (left_part f) (right_part f)) ≤ 16 * f
 right_fast f some = ⊎_elim
-    (λ less. omega (arith, fewer_turns (left_part f) (right_part f) less))
+    (λ less. omega (arith, fewer_phases (left_part f) (right_part f) less))
     (λ le. let same : left_part f ≡ right_part f = omega arith in
-    omega (arith, same_turns (left_part f) (right_part f) same))
+    omega (arith, same_phases (left_part f) (right_part f) same))
     (cases_lt (left_part f) (right_part f))
 
 fast_over : (f left right : ℕ) → 0 < f → left ≤ 16 * left_part f → right ≤ 16 * right_part f

@@ -9,8 +9,8 @@ use Rattle.std.proofs.lemmas.Nat.{mod-mul-add}
 pub record Comes (period t last : ℕ) (output : ℕ → ℕ) (x : ℕ) : Type 0 where
   pub wait : ℕ
   pub soon : wait < period
-  pub shows : (turn d : ℕ) → x + d < period → t + wait + turn * period + d ≤ last
-      → output (t + wait + turn * period + d) ≡ x + d
+  pub shows : (again d : ℕ) → x + d < period → t + wait + again * period + d ≤ last
+      → output (t + wait + again * period + d) ≡ x + d
 
 module _ (period t last : ℕ) (output : ℕ → ℕ) (starts : output t < period)
     (grows : (r : ℕ) → t ≤ r → r < last → output (r + 1) ≡ (output r + 1) % period) where
@@ -33,13 +33,13 @@ module _ (period t last : ℕ) (output : ℕ → ℕ) (starts : output t < perio
   comes_by x wait more lt soon e = record {
     wait = wait;
     soon = soon;
-    shows = λ turn d below hi.
-        let g : t + wait + turn * period + d ≡ t + (wait + turn * period + d) = omega arith in
-        let h : output t + (wait + turn * period + d) ≡ (more + turn) * period + (x + d) =
+    shows = λ again d below hi.
+        let g : t + wait + again * period + d ≡ t + (wait + again * period + d) = omega arith in
+        let h : output t + (wait + again * period + d) ≡ (more + again) * period + (x + d) =
         omega arith in
         ap output g
-        ∙ (after (wait + turn * period + d) (omega arith)
-        ∙ (ap (λ y. y % period) h ∙ mod-mul-add (more + turn) period (x + d) below));
+        ∙ (after (wait + again * period + d) (omega arith)
+        ∙ (ap (λ y. y % period) h ∙ mod-mul-add (more + again) period (x + d) below));
   }
 
   pub comes : (x : ℕ) → x < period → Comes period t last output x

@@ -20,7 +20,7 @@ use Rattle.halving_plan.proofs.LevelStates.{state_back}
 use Rattle.halving_plan.proofs.Ranges.{zero_is_state, step_is_state}
 use Rattle.halving_plan.specs.TreeLaws.{HasQuorum, AreFast, LevelStatesAreRegisters}
 use Rattle.halving_plan.specs.TreeLaws.{ZeroIsInRange}
-use Rattle.halving_plan.specs.TreeLaws.{NextIsInRange, EveryHalvingSettles}
+use Rattle.halving_plan.specs.TreeLaws.{NextIsInRange, EveryTreeSettles}
 use Rattle.halving_plan.specs.TreeLaws.{LocksAtBound, StaysLockedFrom, LockedRunsCount}
 use Rattle.halving_plan.proofs.Places.{CountsIn}
 use Rattle.halving_plan.proofs.Counting.{one_counts, tree_settles, locked_over, stays_over}
@@ -83,7 +83,7 @@ one_stays modulus two faulty run from borne is =
     }
 
 module _ (one_half : OneHalfIsSound) (settle : HalvesSettle) where
-  pub every_tree_settles : EveryHalvingSettles
+  pub every_tree_settles : EveryTreeSettles
   every_tree_settles tree modulus two faulty run borne is =
       counts_over tree modulus faulty run
       (tree_settles one_half settle tree modulus (is_in faulty) (length run - 1)

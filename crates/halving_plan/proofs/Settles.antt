@@ -320,11 +320,11 @@ module _ (halves : Halves) (next : ℕ → ℕ) (faulty : ℕ → Bool) (is : Ha
       (trust.below (r - 1) v (omega arith) (omega arith) c) in
       absurd (omega arith)
 
-  -- how many of them are too many
-  abbrev turns : ℕ
-  turns = (halves.left_faults + 1) / (halves.right_faults + 1)
+  -- of a king's phases two are too many, and so many more
+  abbrev more_phases : ℕ
+  more_phases = (halves.left_faults + 1) / (halves.right_faults + 1)
 
-  long_enough : left_share halves + 3 ≤ suc turns * right_period halves
+  long_enough : left_share halves + 3 ≤ suc more_phases * right_period halves
   long_enough = omega arith
 
   module _ (t : ℕ) (since : s ≤ t) (counts : RightCounts halves faulty t last outputs) where
@@ -347,13 +347,13 @@ module _ (halves : Halves) (next : ℕ → ℕ) (faulty : ℕ → Bool) (is : Ha
     -- one of the right half's kings has such a phase
     right_locks : (q j from : ℕ) → q < halves.right_faults + 1
         → faulty (halves.left_nodes + q) ≡ false → (comes : Comes short t last counts.output (3 * q))
-        → j ≤ suc turns → NoneFollows n faulty follows (t + comes.wait + j * short) 3
+        → j ≤ suc more_phases → NoneFollows n faulty follows (t + comes.wait + j * short) 3
         → t + right_wait halves ≤ from → from ≤ last → StaysLocked n next faulty from last registers
     right_locks q j from lt ok comes le none within hi =
         let quorum = is.right in
         let room = is.room in
         let soon = comes.soon in
-        let early : j * short ≤ suc turns * short = mul-le-mul_right short le in
+        let early : j * short ≤ suc more_phases * short = mul-le-mul_right short le in
         let x : ℕ = t + comes.wait + j * short in
         king_locks x (halves.left_nodes + q) from (omega arith) (omega arith) hi (omega arith) ok
         (λ i few. right_obeyed q i (x + i) few lt (omega arith) (omega arith)
@@ -364,8 +364,8 @@ module _ (halves : Halves) (next : ℕ → ℕ) (faulty : ℕ → Bool) (is : Ha
         → from ≤ last → StaysLocked n next faulty from last registers
     right_by q from lt ok comes within hi =
         let soon = comes.soon in
-        let free = one_free_by (t + comes.wait) turns (omega arith) (omega arith) long_enough
-        (chain (t + comes.wait) (suc turns) (omega arith) (omega arith)) in
+        let free = one_free_by (t + comes.wait) more_phases (omega arith) (omega arith) long_enough
+        (chain (t + comes.wait) (suc more_phases) (omega arith) (omega arith)) in
         right_locks q free.0 from lt ok comes free.1 free.2 within hi
 
     right_settles_by : (from : ℕ) → t + right_wait halves ≤ from → from ≤ last

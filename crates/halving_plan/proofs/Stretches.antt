@@ -19,8 +19,8 @@ use Rattle.halving_plan.proofs.Numbers.{both_parts}
 use Rattle.halving_plan.proofs.Trees.{split_of, nodes_of_half}
 use Rattle.halving_plan.proofs.Halves.{left_tree, right_tree, half_tree, halves_are}
 use Rattle.halving_plan.proofs.Halves.{lt_shifted}
-use Rattle.halving_plan.specs.MachineGroups.{below, section, stretch}
-use Rattle.halving_plan.specs.HalvingMachineHearing.{level_state_in, outputs_in, level_state_heard}
+use Rattle.halving_plan.specs.GroupStates.{below, section, stretch}
+use Rattle.halving_plan.specs.GroupHearing.{level_state_in, outputs_in, level_state_heard}
 use Rattle.halving_plan.proofs.Lists.{map_map, map_same, section_in, section-map, get_or-section}
 use Rattle.halving_plan.proofs.Lists.{length-section}
 

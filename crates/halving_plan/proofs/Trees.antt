@@ -8,7 +8,7 @@ use Rattle.halving_plan.specs.Trees.{Tree, Split, tree_nodes}
 use Rattle.halving_plan.specs.Trees.{tree_height, tree_bound, bound_over}
 use Rattle.halving_plan.specs.Trees.{halved_within, tree_for, left_part, right_part}
 use Rattle.halving_plan.proofs.Numbers.{faults_of_tree, nodes_of_tree, of_faults}
-use Rattle.halving_plan.proofs.Numbers.{fewer_turns, same_turns}
+use Rattle.halving_plan.proofs.Numbers.{fewer_phases, same_phases}
 
 -- each height that is enough gives the same tree
 pub same_within : (h k f spares : ℕ) → f ≤ h → f ≤ k
@@ -42,10 +42,10 @@ nodes_of_half zero = refl
 nodes_of_half (suc f) = nodes_of_tree (suc f) 0 (omega arith) ∙ omega arith
 
 -- the tree of so many faults, with all further nodes as spares, has all nodes
-pub nodes_of_tree : (n f : ℕ) → 3 * f < n → (f ≡ 0 → n ≡ 1)
+pub nodes_with_spares : (n f : ℕ) → 3 * f < n → (f ≡ 0 → n ≡ 1)
     → tree_nodes (tree_for f (n - (3 * f + 1))) ≡ n
-nodes_of_tree n zero quorum single = omega (arith, single refl)
-nodes_of_tree n (suc f) quorum single =
+nodes_with_spares n zero quorum single = omega (arith, single refl)
+nodes_with_spares n (suc f) quorum single =
     omega (arith, nodes_of_tree (suc f) (n - (3 * suc f + 1)) (omega arith), quorum)
 
 -- ---- heights
@@ -96,9 +96,9 @@ ten_over : (f left right height : ℕ) → 0 < f → left ≤ 10 * (left_part f 
     → bound_over (of_faults (left_part f) (right_part f)) left right ≤ 10 * (f + (height + 1))
 ten_over f left right height some l r =
     max-le (omega arith) (⊎_elim
-    (λ less. omega (arith, fewer_turns (left_part f) (right_part f) less))
+    (λ less. omega (arith, fewer_phases (left_part f) (right_part f) less))
     (λ more. let same : left_part f ≡ right_part f = omega arith in
-    omega (arith, same_turns (left_part f) (right_part f) same))
+    omega (arith, same_phases (left_part f) (right_part f) same))
     (cases_lt (left_part f) (right_part f)))
 
 ten_within : (high f spares : ℕ) → f ≤ high
@@ -124,8 +124,8 @@ pub ten_each : (f spares : ℕ)
 ten_each f spares = ten_within f f spares (omega arith)
 
 -- no king has fewer than two phases
-two_turns : (left right : ℕ) → 2 * instructions right + 2 ≤ right_wait (of_faults left right)
-two_turns left right = omega arith
+two_phases : (left right : ℕ) → 2 * instructions right + 2 ≤ right_wait (of_faults left right)
+two_phases left right = omega arith
 
 -- more faults wait no shorter for the right half
 longer : (f g : ℕ) → 0 < f → f ≤ g
@@ -134,19 +134,19 @@ longer : (f g : ℕ) → 0 < f → f ≤ g
 longer f g some le = ⊎_elim
     (λ less. omega (
       arith,
-      fewer_turns (left_part f) (right_part f) less,
-      two_turns (left_part g) (right_part g),
+      fewer_phases (left_part f) (right_part f) less,
+      two_phases (left_part g) (right_part g),
     ))
     (λ more. let same : left_part f ≡ right_part f = omega arith in ⊎_elim
     (λ less. omega (
       arith,
-      same_turns (left_part f) (right_part f) same,
-      two_turns (left_part g) (right_part g),
+      same_phases (left_part f) (right_part f) same,
+      two_phases (left_part g) (right_part g),
     ))
     (λ over. let equal : left_part g ≡ right_part g = omega arith in omega (
       arith,
-      same_turns (left_part f) (right_part f) same,
-      same_turns (left_part g) (right_part g) equal,
+      same_phases (left_part f) (right_part f) same,
+      same_phases (left_part g) (right_part g) equal,
     ))
     (cases_lt (left_part g) (right_part g)))
     (cases_lt (left_part f) (right_part f))

@@ -1,7 +1,6 @@
 -- What a plan promises: it is the machine of its tree, with its numbers, and that settles.
-use Rattle.std.specs.Prelude.{◌≡◌, ℕ, ◌*◌, ◌≤◌}
-use Rattle.halving_plan.specs.Trees.{tree_nodes, tree_faults, tree_bound}
-use Rattle.halving_plan.specs.Trees.{tree_for}
+use Rattle.std.specs.Prelude.{◌≡◌, ℕ, ◌+◌, ◌*◌, ◌≤◌}
+use Rattle.halving_plan.specs.Trees.{tree_nodes, tree_faults, tree_height, tree_bound, tree_for}
 use Rattle.machines.specs.Machines.{Machine, Settles}
 use Rattle.machines.specs.Laws.{IsSound}
 use Rattle.halving_plan.specs.Runs.{machine_of}
@@ -11,11 +10,13 @@ use Rattle.halving_plan.specs.Plans.{HalvingNumbers, tree_of, IsAccepted}
 abbrev pub machine_in : HalvingNumbers → Machine
 machine_in plan = machine_of (tree_of plan) plan.modulus
 
--- the machine has the plan's numbers, and counts from its bound on
+-- The machine has the plan's numbers, and counts from its bound on: that is at most 16 rounds for
+-- each fault, and at most ten for each fault and each level.
 pub record PlanSettles (plan : HalvingNumbers) : Type 0 where
   pub nodes : tree_nodes (tree_of plan) ≡ plan.nodes
   pub faults : tree_faults (tree_of plan) ≡ plan.faults
   pub bound : tree_bound (tree_of plan) ≤ 16 * plan.faults
+  pub each : tree_bound (tree_of plan) ≤ 10 * (plan.faults + tree_height (tree_of plan))
   pub settles : Settles (machine_in plan)
 
 -- Every accepted plan settles.

@@ -45,7 +45,7 @@ follows_left halves own backed =
 abbrev pub instruction_of : Halves → (left : Bool) → (seen right : ℕ) → ℕ
 instruction_of halves left seen right = if left then seen - right_share halves else right
 
--- each king has three instructions; his place in the group
+-- each king has three instructions; its place in the group
 abbrev pub king_of : Halves → (left : Bool) → (instruction : ℕ) → ℕ
 king_of halves left instruction =
     if left then instruction / 3 else halves.left_nodes + instruction / 3

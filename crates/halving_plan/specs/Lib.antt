@@ -1,8 +1,8 @@
 pub mod Alike
 pub mod Kept
-pub mod MachineGroups
-pub mod HalvingMachineLevelStates
-pub mod HalvingMachineHearing
+pub mod GroupStates
+pub mod WrittenLevelStates
+pub mod GroupHearing
 pub mod Trees
 pub mod Registers
 pub mod Steps
@@ -17,3 +17,4 @@ pub mod Groups
 pub mod Fields
 pub mod Laws
 pub mod Sizes
+pub mod OutputPlaces

@@ -1,7 +1,6 @@
 -- A plan of the halving construction: three numbers, and the tree that they stand for.
 use Rattle.std.specs.Prelude.{◌≡◌, ℕ, ◌+◌, ◌-◌, ◌*◌, ◌^◌, ◌<◌, ◌≤◌, ◌||◌, ◌&&◌, nat_lt, nat_le}
-use Rattle.std.specs.Prelude.{nat_eq}
-use Rattle.std.specs.Prelude.{if◌then◌else◌, Option, Some, None, Result, Ok, Err}
+use Rattle.std.specs.Prelude.{nat_eq, if◌then◌else◌, Option, Some, None, Result, Ok, Err}
 use Rattle.halving_plan.specs.Trees.{Tree, tree_for}
 use Rattle.halving_plan.specs.declared.premises.HalvingPremise.{HalvingPremise}
 use Rattle.halving_plan.specs.declared.premises.HalvingPremise.TheVariants.{Limit, Modulus, Quorum}

@@ -52,8 +52,8 @@ NextIsInRange = (tree : Tree) (modulus : ℕ) → 2 ≤ modulus → (v : ℕ) (h
     → IsState tree modulus v (step_of tree modulus v heard)
 
 -- Every tree settles.
-abbrev pub EveryHalvingSettles : Type 0
-EveryHalvingSettles =
+abbrev pub EveryTreeSettles : Type 0
+EveryTreeSettles =
     (tree : Tree) (modulus : ℕ) → 2 ≤ modulus → Settles (machine_of tree modulus)
 
 -- In each run with a tolerated faulty set that reaches the bound, the configuration at the bound is

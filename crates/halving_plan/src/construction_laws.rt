@@ -2,7 +2,7 @@
 
 ghost use Rattle.halving_plan.specs.TreeLaws.{HasQuorum, AreFast, LevelStatesAreRegisters};
 ghost use Rattle.halving_plan.specs.TreeLaws.{ZeroIsInRange, NextIsInRange, EachHasOneNext};
-ghost use Rattle.halving_plan.specs.TreeLaws.{EveryHalvingSettles, LocksAtBound, LockedRunsCount};
+ghost use Rattle.halving_plan.specs.TreeLaws.{EveryTreeSettles, LocksAtBound, LockedRunsCount};
 ghost use Rattle.halving_plan.specs.TreeLaws.{MachinesAreSound};
 
 /// Every tree of halves has more than three nodes for each fault that it tolerates.
@@ -10,8 +10,8 @@ pub fn every_tree_has_quorum()
     ensures { HasQuorum }
 {}
 
-/// The tree of f faults that plans have has 3 f + 1 nodes, and as many more as are asked for, and
-/// its bound is at most 16 f, and at most ten rounds for each fault and each level.
+/// The tree of f faults that plans have has 3 f + 1 nodes, and as many more as are asked for. Its
+/// bound is at most 16 f, and at most ten rounds for each fault and each level.
 pub fn trees_are_fast()
     ensures { AreFast }
 {}
@@ -45,7 +45,7 @@ pub fn each_has_one_next()
 /// It holds by induction over the tree. However the faults fall, one half has no more than it
 /// tolerates, so it counts from its bound on, and its kings lock the group's registers.
 pub fn every_tree_settles()
-    ensures { EveryHalvingSettles }
+    ensures { EveryTreeSettles }
 {}
 
 /// In each run that reaches the bound, with a faulty set that the tree tolerates, the configuration

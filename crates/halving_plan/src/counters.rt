@@ -4,7 +4,7 @@ ghost use Rattle.halving_plan.specs.Steps.{tree_depth, shown_in, step_of};
 ghost use Rattle.halving_plan.specs.Runs.{IsState};
 ghost use Rattle.counter_core.specs.Meanings.{written, cut};
 ghost use Rattle.halving_plan.specs.Plans.{tree_of};
-ghost use Rattle.halving_plan.specs.MachineGroups.{IsDeep, CanHear};
+ghost use Rattle.halving_plan.specs.GroupStates.{IsDeep, CanHear};
 
 use crate::HalvingPlan;
 use crate::steps::step_group;

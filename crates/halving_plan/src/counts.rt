@@ -2,8 +2,8 @@ ghost use Rattle.std.specs.Prelude.{◌≡◌, ◌+◌, ◌≤◌, length, count
 ghost use Rattle.std.specs.Prelude.{if◌then◌else◌};
 ghost use Rattle.sync_types.specs.States.{register_at};
 ghost use Rattle.counting.specs.Values.{count_of};
-ghost use Rattle.halving_plan.specs.MachineGroups.{section};
-ghost use Rattle.halving_plan.specs.HalvingMachineHearing.{values_in};
+ghost use Rattle.halving_plan.specs.GroupStates.{section};
+ghost use Rattle.halving_plan.specs.GroupHearing.{values_in};
 
 use crate::{Group, LevelState};
 use counter_core::Heard;

@@ -2,8 +2,8 @@ ghost use Rattle.std.specs.Prelude.{◌≡◌, ◌≢◌, ℕ, ◌+◌, ◌-◌,
 ghost use Rattle.std.specs.Prelude.{nat_eq, count_by};
 ghost use Rattle.counting.specs.Values.{majority_or_zero};
 ghost use Rattle.halving_plan.specs.LevelStates.{shown};
-ghost use Rattle.halving_plan.specs.MachineGroups.{HasGroup, section};
-ghost use Rattle.halving_plan.specs.HalvingMachineHearing.{shown_by, outputs_in, level_state_heard};
+ghost use Rattle.halving_plan.specs.GroupStates.{HasGroup, section};
+ghost use Rattle.halving_plan.specs.GroupHearing.{shown_by, outputs_in, level_state_heard};
 
 use crate::Group;
 use crate::counts::{count_group, one_if};
@@ -110,7 +110,8 @@ fn shown(half: &Group, heard: &Heard<'_>) -> u64
     majority(half, heard) % half.modulus()
 }
 
-/// Whether so many nodes of a group that no correct node has another number with as many.
+/// Whether a number is backed that so many nodes of a group saw: so many that no correct node finds
+/// another number backed.
 fn is_backed(group: &Group, saw: usize) -> bool
     ensures { result ≡ nat_le (group.now.nodes - group.now.faults) saw }
 {

@@ -5,7 +5,7 @@ ghost use Rattle.construction.specs.PhaseKing.{up, instructed};
 ghost use Rattle.counter_core.specs.HeardRegisters.{values_heard};
 ghost use Rattle.halving_plan.specs.LevelStates.{king_of};
 ghost use Rattle.halving_plan.specs.Groups.{sizes_of};
-ghost use Rattle.halving_plan.specs.HalvingMachineHearing.{values_in};
+ghost use Rattle.halving_plan.specs.GroupHearing.{values_in};
 
 use crate::Group;
 use counter_core::{Heard, HeardRegister};

@@ -3,8 +3,8 @@
 ghost use Rattle.halving_plan.specs.Laws.{EveryPlanSettles, AcceptedAreSound, BoundsRise};
 
 /// Each accepted plan's machine has the plan's nodes and faults, and counts from its bound on,
-/// which is at most 16 for each fault: whatever the start and the lies, with each faulty set that
-/// it tolerates.
+/// whatever the start and the lies, with each faulty set that it tolerates. The bound is at most 16
+/// rounds for each fault, and at most ten for each fault and each level.
 pub fn every_plan_settles()
     ensures { EveryPlanSettles }
 {}

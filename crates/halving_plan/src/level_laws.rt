@@ -15,7 +15,7 @@ pub fn one_half_is_sound()
 /// rounds apart than its first share is long, follow one share of it. If the left half counts, all
 /// trust it from its 0 on, and obey its kings in its share. If the right half counts, the left
 /// half's share is too short for so many of its periods: in one of them nobody follows the left
-/// half while a correct king of the right half has his three instructions.
+/// half while a correct king of the right half has its three instructions.
 pub fn halves_settle()
     ensures { HalvesSettle }
 {}

@@ -2,8 +2,8 @@ ghost use Rattle.std.specs.Prelude.{◌≡◌, ◌<◌, ◌+◌, ◌≤◌, leng
 ghost use Rattle.halving_plan.specs.LevelStates.{trusts, follows_left, instruction_of};
 ghost use Rattle.halving_plan.specs.Registers.{level_state_of};
 ghost use Rattle.halving_plan.specs.Groups.{sizes_of};
-ghost use Rattle.halving_plan.specs.MachineGroups.{below};
-ghost use Rattle.halving_plan.specs.HalvingMachineLevelStates.{with_level_state_at};
+ghost use Rattle.halving_plan.specs.GroupStates.{below};
+ghost use Rattle.halving_plan.specs.WrittenLevelStates.{with_level_state_at};
 
 use crate::Group;
 use std::marker::Model;

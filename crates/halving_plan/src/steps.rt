@@ -1,7 +1,7 @@
 ghost use Rattle.std.specs.Prelude.{◌≡◌, ◌+◌, ◌-◌, ◌≤◌, ◌<◌, length, All};
 ghost use Rattle.halving_plan.specs.Steps.{step_in};
 ghost use Rattle.halving_plan.specs.Groups.{tree_in};
-ghost use Rattle.halving_plan.specs.MachineGroups.{HasGroup, stretch, overlaid};
+ghost use Rattle.halving_plan.specs.GroupStates.{HasGroup, stretch, overlaid};
 
 use crate::Group;
 use crate::hearing::new_level_state;

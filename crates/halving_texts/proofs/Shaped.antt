@@ -11,8 +11,8 @@ use Rattle.halving_plan.specs.Steps.{tree_depth}
 use Rattle.halving_plan.specs.Runs.{fields_in, all_fields}
 use Rattle.halving_plan.specs.Plans.{HalvingNumbers, IsAccepted, tree_of}
 use Rattle.halving_plan.specs.Laws.{machine_in}
+use Rattle.halving_plan.proofs.Sound as plans
 use Rattle.halving_plan.proofs.Sound.{accepted_are_sound}
-use Rattle.halving_plan.proofs.Most.{nodes_of_plan}
 use Rattle.halving_texts.specs.HalvingShapes.{shape_of}
 use Rattle.halving_texts.proofs.Used.{deep_node}
 
@@ -29,10 +29,10 @@ module _ (plan : HalvingNumbers) (accepted : IsAccepted plan) where
   is_sound = accepted_are_sound plan accepted
 
   pub limited : (v : ℕ) → v < plan.nodes → IsFields (fields v)
-  limited v lt = is_sound.fields v (omega (arith, lt, nodes_of_plan plan accepted))
+  limited v lt = is_sound.fields v (omega (arith, lt, plans.nodes_are plan accepted))
 
   pub deep : (v : ℕ) → v < plan.nodes → length (fields v).moduli ≡ tree_depth (tree_of plan)
-  deep v lt = is_sound.depth v (omega (arith, lt, nodes_of_plan plan accepted))
+  deep v lt = is_sound.depth v (omega (arith, lt, plans.nodes_are plan accepted))
 
   pub nodes_are : shape_nodes (shape_of plan) ≡ plan.nodes
   nodes_are = length-map-range_with_len fields 0 plan.nodes
@@ -66,7 +66,7 @@ module _ (plan : HalvingNumbers) (accepted : IsAccepted plan) where
       let least = accepted.least_modulus in
       let node = deep_node (tree_of plan) plan.modulus (omega (arith, least)) in
       let inside = node.inside in
-      let below : node.node < plan.nodes = omega (arith, inside, nodes_of_plan plan accepted) in
+      let below : node.node < plan.nodes = omega (arith, inside, plans.nodes_are plan accepted) in
       let some = front (fields_in (tree_of plan) plan.modulus node.node).moduli
       (replicate (tree_depth (tree_of plan)
       - length (fields_in (tree_of plan) plan.modulus node.node).moduli) 0) i (node.each i lt) in (

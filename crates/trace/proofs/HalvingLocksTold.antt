@@ -15,7 +15,7 @@ use Rattle.halving_plan.specs.Trees.{tree_for}
 use Rattle.halving_plan.specs.Laws.{machine_in}
 use Rattle.halving_plan.specs.LevelStates.{LevelState}
 use Rattle.halving_plan.specs.Plans.{HalvingNumbers, IsAccepted}
-use Rattle.halving_plan.specs.HalvingMachineHearing.{level_state_in, level_states_in}
+use Rattle.halving_plan.specs.GroupHearing.{level_state_in, level_states_in}
 use Rattle.halving_plan.specs.Runs.{lock_of}
 use Rattle.halving_plan.proofs.Sound.{nodes_are}
 use Rattle.trace.specs.declared.headings.Heading.{Heading}

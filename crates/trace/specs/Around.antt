@@ -2,7 +2,7 @@
 use Rattle.std.specs.Prelude.{◌≡◌, ◌+◌, ◌<◌, ◌≤◌, List, length, All}
 use Rattle.sync_types.specs.States.{State}
 use Rattle.halving_plan.specs.Groups.{HalvingGroup}
-use Rattle.halving_plan.specs.MachineGroups.{HasGroup}
+use Rattle.halving_plan.specs.GroupStates.{HasGroup}
 use Rattle.trace.specs.declared.views.View.{View}
 
 -- the node is in the group, whose nodes are some of all, and all states have the group's registers

@@ -2,7 +2,7 @@
 use Rattle.std.specs.Prelude.{ℕ, List, [], ◌∷◌, Bool, true, false, codes, decimal}
 use Rattle.std.specs.List.{concat}
 use Rattle.halving_plan.specs.LevelStates.{LevelState, echoed, backed}
-use Rattle.halving_plan.specs.HalvingMachineLevelStates.{left_fires, right_fires}
+use Rattle.halving_plan.specs.WrittenLevelStates.{left_fires, right_fires}
 use Rattle.trace.specs.Words.{number_or_none}
 use Rattle.trace.specs.declared.counted.HeardCounts.{HeardCounts}
 

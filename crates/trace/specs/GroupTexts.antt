@@ -11,7 +11,7 @@ use Rattle.halving_plan.specs.LevelStates.{LevelState, says_left, says_right, fi
 use Rattle.halving_plan.specs.LevelStates.{fires_right}
 use Rattle.halving_plan.specs.LevelStates.{values_of}
 use Rattle.halving_plan.specs.Groups.{HalvingGroup, sizes_of}
-use Rattle.halving_plan.specs.HalvingMachineHearing.{level_state_in, level_states_in}
+use Rattle.halving_plan.specs.GroupHearing.{level_state_in, level_states_in}
 use Rattle.trace.specs.declared.headings.Heading.{Heading}
 use Rattle.trace.specs.Words.{number_or_none, faulty_word, mark_word, turn_word, all_have}
 use Rattle.trace.specs.Counted.{grade_of, fires_word}

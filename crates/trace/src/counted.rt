@@ -5,8 +5,8 @@ ghost use Rattle.counting.specs.Values.{count_of, least_above};
 ghost use Rattle.edge_io.specs.Writing.{Writes};
 ghost use Rattle.halving_plan.specs.LevelStates.{echoed, backed, says_left, says_right};
 ghost use Rattle.halving_plan.specs.LevelStates.{values_of};
-ghost use Rattle.halving_plan.specs.HalvingMachineHearing.{level_states_in};
-ghost use Rattle.halving_plan.specs.HalvingMachineLevelStates.{left_fires, right_fires};
+ghost use Rattle.halving_plan.specs.GroupHearing.{level_states_in};
+ghost use Rattle.halving_plan.specs.WrittenLevelStates.{left_fires, right_fires};
 ghost use Rattle.trace.specs.Counted.{grade_word, fires_word, counted_part};
 
 use crate::group_views::GroupView;

@@ -4,7 +4,7 @@ ghost use Rattle.std.specs.Prelude.{◌≡◌};
 ghost use Rattle.construction.specs.Steps.{state_of};
 ghost use Rattle.edge_io.specs.Writing.{Writes};
 ghost use Rattle.halving_plan.specs.Groups.{sizes_of};
-ghost use Rattle.halving_plan.specs.HalvingMachineHearing.{level_state_in, level_states_in};
+ghost use Rattle.halving_plan.specs.GroupHearing.{level_state_in, level_states_in};
 ghost use Rattle.trace.specs.Around.{IsAround};
 ghost use Rattle.trace.specs.GroupTexts.{half_word, seen_word, marks_part};
 ghost use Rattle.trace.specs.GroupTexts.{instruction_part, held_part, heard_if};

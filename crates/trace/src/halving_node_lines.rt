@@ -3,7 +3,7 @@
 ghost use Rattle.std.specs.Prelude.{◌≡◌, All};
 ghost use Rattle.construction.specs.Steps.{state_of};
 ghost use Rattle.edge_io.specs.Writing.{Writes};
-ghost use Rattle.halving_plan.specs.MachineGroups.{IsDeep};
+ghost use Rattle.halving_plan.specs.GroupStates.{IsDeep};
 ghost use Rattle.trace.specs.HalvingNodeTexts.{number_of_node, state_line};
 
 use crate::views::View;

@@ -8,9 +8,9 @@ use Rattle.halving_plan.specs.Runs.{IsState}
 use Rattle.halving_plan.proofs.Ranges.{step_is_state, depth_most}
 use Rattle.halving_plan.specs.Groups.{HalvingGroup, whole_of}
 use Rattle.halving_plan.specs.Plans.{HalvingNumbers, tree_of}
-use Rattle.halving_plan.specs.MachineGroups.{overlaid, stretch}
+use Rattle.halving_plan.specs.GroupStates.{overlaid, stretch}
 use Rattle.halving_plan.proofs.Stretches.{step_by}
-use Rattle.halving_plan.proofs.HalvingMachineWritten.{over_cleared}
+use Rattle.halving_plan.proofs.WrittenStates.{over_cleared}
 use Rattle.halving_plan.proofs.counters.advance.Goals as goal
 
 -- all that is heard is the stretch of all nodes

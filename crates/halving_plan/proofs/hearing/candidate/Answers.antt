@@ -2,7 +2,7 @@ use Rattle.std.proofs.Common.{◌≡◌, ℕ, ◌+◌, ◌-◌, ◌<◌, cond, c
 use Rattle.std.proofs.Common.{refl, sym, ap, ◌∙◌, subst, arith, ◌≤◌}
 use Rattle.sync_types.specs.States.{State, zero_state}
 use Rattle.construction.specs.Steps.{state_of}
-use Rattle.halving_plan.specs.HalvingMachineHearing.{shown_by}
+use Rattle.halving_plan.specs.GroupHearing.{shown_by}
 use Rattle.halving_plan.proofs.Lists.{one_more_counted}
 use Rattle.halving_plan.proofs.Lead.{IsLead, IsNext, leads_more, leads_less, leads_now, lead_as}
 use Rattle.halving_plan.proofs.Lead.{others_few}

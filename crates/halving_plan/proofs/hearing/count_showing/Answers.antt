@@ -2,7 +2,7 @@ use Rattle.std.proofs.Common.{◌≡◌, ◌+◌, ◌<◌, cond, nat_eq, length}
 use Rattle.std.proofs.Common.{ap, ◌∙◌, arith}
 use Rattle.sync_types.specs.States.{State, zero_state}
 use Rattle.construction.specs.Steps.{state_of}
-use Rattle.halving_plan.specs.HalvingMachineHearing.{shown_by}
+use Rattle.halving_plan.specs.GroupHearing.{shown_by}
 use Rattle.halving_plan.proofs.Lists.{one_more_counted, one_at_most}
 use Rattle.halving_plan.proofs.hearing.count_showing.Goals as goal
 

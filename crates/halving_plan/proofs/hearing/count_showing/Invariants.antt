@@ -1,5 +1,5 @@
 use Rattle.std.proofs.Common.{◌≡◌, ◌≤◌, count_by, nat_eq, take, drop}
-use Rattle.halving_plan.specs.HalvingMachineHearing.{shown_by}
+use Rattle.halving_plan.specs.GroupHearing.{shown_by}
 use Rattle.halving_plan.proofs.hearing.count_showing.Given as goal
 
 abbrev pub invariant-loop-i : goal.invariant-loop-i

@@ -7,8 +7,8 @@ use Rattle.counting.specs.Values.{count_of}
 use Rattle.counting.proofs.Counts.{count_of_numbers}
 use Rattle.counting.proofs.Majority.{majority_is, no_majority}
 use Rattle.halving_plan.specs.Groups.{HalvingGroup}
-use Rattle.halving_plan.specs.MachineGroups.{section}
-use Rattle.halving_plan.specs.HalvingMachineHearing.{shown_by, outputs_in}
+use Rattle.halving_plan.specs.GroupStates.{section}
+use Rattle.halving_plan.specs.GroupHearing.{shown_by, outputs_in}
 use Rattle.halving_plan.proofs.Lists.{count_by-map, length-section}
 use Rattle.halving_plan.proofs.hearing.majority.Goals as goal
 

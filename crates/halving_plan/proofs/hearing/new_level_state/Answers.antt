@@ -7,10 +7,10 @@ use Rattle.construction.specs.Steps.{state_of}
 use Rattle.construction.specs.PhaseKing.{instructed, up}
 use Rattle.halving_plan.specs.LevelStates.{LevelState, shown, follows_left, instruction_of, king_of}
 use Rattle.halving_plan.specs.Groups.{HalvingGroup, sizes_of}
-use Rattle.halving_plan.specs.MachineGroups.{HasGroup}
-use Rattle.halving_plan.specs.HalvingMachineHearing.{level_state_in, outputs_in, values_in}
+use Rattle.halving_plan.specs.GroupStates.{HasGroup}
+use Rattle.halving_plan.specs.GroupHearing.{level_state_in, outputs_in, values_in}
 use Rattle.halving_plan.proofs.Depths.{two_deep, left_deep, right_deep}
-use Rattle.halving_plan.proofs.HalvingMachineHeard.{level_state_is, saw_is}
+use Rattle.halving_plan.proofs.GroupHeard.{level_state_is, saw_is}
 use Rattle.halving_plan.proofs.hearing.new_level_state.Goals as goal
 
 pub read-own-requires : goal.read-own-requires

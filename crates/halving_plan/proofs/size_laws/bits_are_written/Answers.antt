@@ -1,4 +1,4 @@
-use Rattle.halving_plan.proofs.Written.{bits_are_written}
+use Rattle.halving_plan.proofs.WrittenBits.{bits_are_written}
 use Rattle.halving_plan.proofs.size_laws.bits_are_written.Goals as goal
 
 pub returns : goal.returns

@@ -2,12 +2,12 @@ use Rattle.std.proofs.Common.{◌<◌, ◌+◌, ◌∙◌, ap, subst, sym, Optio
 use Rattle.sync_types.specs.States.{State}
 use Rattle.halving_plan.specs.Registers.{with_level_state}
 use Rattle.halving_plan.specs.Groups.{HalvingGroup}
-use Rattle.halving_plan.specs.MachineGroups.{HasGroup, overlaid}
-use Rattle.halving_plan.specs.HalvingMachineHearing.{level_state_heard}
-use Rattle.halving_plan.specs.HalvingMachineLevelStates.{with_level_state_at}
+use Rattle.halving_plan.specs.GroupStates.{HasGroup, overlaid}
+use Rattle.halving_plan.specs.GroupHearing.{level_state_heard}
+use Rattle.halving_plan.specs.WrittenLevelStates.{with_level_state_at}
 use Rattle.halving_plan.proofs.Depths.{two_deep}
 use Rattle.halving_plan.proofs.Stretches.{steps_by_stretches, step_by, step_in_half}
-use Rattle.halving_plan.proofs.HalvingMachineWritten.{length_with_level_state_at, overlaid_after}
+use Rattle.halving_plan.proofs.WrittenStates.{length_with_level_state_at, overlaid_after}
 use Rattle.halving_plan.proofs.steps.+step_group.Goals as goal
 
 pub write-requires : goal.write-requires

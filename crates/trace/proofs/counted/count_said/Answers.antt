@@ -3,9 +3,9 @@ use Rattle.counting.specs.Values.{count_of, least_above}
 use Rattle.sync_types.specs.States.{State, register_at}
 use Rattle.counter_core.specs.HeardRegisters.{RegisterHeard, values_heard}
 use Rattle.halving_plan.specs.LevelStates.{LevelState, values_of}
-use Rattle.halving_plan.specs.MachineGroups.{section}
-use Rattle.halving_plan.specs.HalvingMachineHearing.{level_states_in}
-use Rattle.halving_plan.proofs.HalvingMachineHeard.{marks_left, marks_right, values_are}
+use Rattle.halving_plan.specs.GroupStates.{section}
+use Rattle.halving_plan.specs.GroupHearing.{level_states_in}
+use Rattle.halving_plan.proofs.GroupHeard.{marks_left, marks_right, values_are}
 use Rattle.trace.proofs.counted.count_said.Goals as goal
 
 pub returns-clause-left : goal.returns-clause-left

@@ -1,6 +1,6 @@
 use Rattle.std.proofs.Common.{ap, ◌∙◌}
 use Rattle.sync_types.specs.States.{zero_state}
-use Rattle.halving_plan.specs.HalvingMachineHearing.{level_state_in}
+use Rattle.halving_plan.specs.GroupHearing.{level_state_in}
 use Rattle.counter_core.proofs.StateLists.{within}
 use Rattle.trace.proofs.group_lines.own_in.Goals as goal
 

@@ -1,7 +1,7 @@
 use Rattle.std.proofs.Common.{ap}
 use Rattle.edge_io.proofs.Writing.{writes_is, writes_then}
 use Rattle.halving_plan.specs.LevelStates.{LevelState}
-use Rattle.halving_plan.specs.HalvingMachineHearing.{level_states_in}
+use Rattle.halving_plan.specs.GroupHearing.{level_states_in}
 use Rattle.halving_plan.specs.Groups.{sizes_of}
 use Rattle.trace.specs.GroupTexts.{group_front, held_part, heard_if}
 use Rattle.trace.proofs.group_lines.put_group_line.Goals as goal

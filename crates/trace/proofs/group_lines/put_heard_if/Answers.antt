@@ -1,5 +1,5 @@
 use Rattle.edge_io.proofs.Writing.{writes_is, writes_none}
-use Rattle.halving_plan.specs.HalvingMachineHearing.{level_states_in}
+use Rattle.halving_plan.specs.GroupHearing.{level_states_in}
 use Rattle.trace.proofs.Counts.{counted_is}
 use Rattle.trace.proofs.group_lines.put_heard_if.Goals as goal
 

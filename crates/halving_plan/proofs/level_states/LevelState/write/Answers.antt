@@ -1,8 +1,8 @@
 use Rattle.std.proofs.Common.{◌+◌, ◌≤◌, List, length, Some, set, ap, ap₂, ◌∙◌, arith}
 use Rattle.sync_types.specs.declared.states.Reg.{Reg}
 use Rattle.sync_types.specs.States.{State}
-use Rattle.halving_plan.specs.HalvingMachineLevelStates.{with_level_state_at}
-use Rattle.halving_plan.proofs.HalvingMachineWritten.{two_set}
+use Rattle.halving_plan.specs.WrittenLevelStates.{with_level_state_at}
+use Rattle.halving_plan.proofs.WrittenStates.{two_set}
 use Rattle.halving_plan.proofs.level_states.LevelState.write.Goals as goal
 
 pub returns : goal.returns

@@ -7,7 +7,7 @@ use Rattle.halving_plan.specs.LevelStates.{LevelState, level_state_after}
 use Rattle.halving_plan.specs.Registers.{level_state_of}
 use Rattle.halving_plan.specs.Steps.{shown_in}
 use Rattle.halving_plan.specs.Groups.{HalvingGroup, tree_in, left_of, right_of, sizes_of}
-use Rattle.halving_plan.specs.MachineGroups.{below, section}
+use Rattle.halving_plan.specs.GroupStates.{below, section}
 
 -- the values of the group's registers
 abbrev pub values_in : HalvingGroup → List State → List (Option ℕ)

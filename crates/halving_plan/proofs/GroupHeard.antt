@@ -12,10 +12,10 @@ use Rattle.halving_plan.specs.LevelStates.{instruction_of, king_of, values_of}
 use Rattle.halving_plan.specs.Trees.{tree_for}
 use Rattle.halving_plan.specs.Steps.{shown_in}
 use Rattle.halving_plan.specs.Groups.{HalvingGroup, left_of, right_of, sizes_of}
-use Rattle.halving_plan.specs.MachineGroups.{below, section}
-use Rattle.halving_plan.specs.HalvingMachineHearing.{values_in, outputs_in, level_states_in}
-use Rattle.halving_plan.specs.HalvingMachineHearing.{level_state_in}
-use Rattle.halving_plan.specs.HalvingMachineHearing.{level_state_heard}
+use Rattle.halving_plan.specs.GroupStates.{below, section}
+use Rattle.halving_plan.specs.GroupHearing.{values_in, outputs_in, level_states_in}
+use Rattle.halving_plan.specs.GroupHearing.{level_state_in}
+use Rattle.halving_plan.specs.GroupHearing.{level_state_heard}
 use Rattle.halving_plan.proofs.Lists.{map_map, map_same, count_by-map, count_same}
 use Rattle.halving_plan.proofs.Numbers.{both_parts}
 

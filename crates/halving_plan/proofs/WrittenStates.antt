@@ -13,8 +13,8 @@ use Rattle.counter_core.specs.Meanings.{written}
 use Rattle.halving_plan.specs.LevelStates.{LevelState}
 use Rattle.halving_plan.specs.Registers.{registers_of, with_level_state}
 use Rattle.halving_plan.specs.Steps.{filled}
-use Rattle.halving_plan.specs.MachineGroups.{overlaid}
-use Rattle.halving_plan.specs.HalvingMachineLevelStates.{with_level_state_at}
+use Rattle.halving_plan.specs.GroupStates.{overlaid}
+use Rattle.halving_plan.specs.WrittenLevelStates.{with_level_state_at}
 
 set_in : (before ys : List Reg) (n i j : ℕ) (y : Reg) → length before ≡ n → i ≡ n + j
     → set (before ++ ys) i y ≡ before ++ set ys j y
