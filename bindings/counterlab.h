@@ -13,7 +13,7 @@
 #include <stddef.h>
 #include <stdint.h>
 
-#define COUNTERLAB_VERSION "1.0" /* of the repository: its file VERSION */
+#define COUNTERLAB_VERSION "2.0" /* of the repository: its file VERSION */
 
 /* What a call answers. */
 struct counterlab_answer {

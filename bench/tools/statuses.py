@@ -154,7 +154,7 @@ LAYERS_OF_ONE = {
 }
 TABLE_OF_ONE = (
     b"table halving 1\nplan nodes 1 faults 0 modulus 10\nbound 0 levels 0 bits 4 bytes 1\n"
-    b"group 0 nodes 1 faults 0 modulus 10\nend\n"
+    b"group 0 nodes 1 faults 0 modulus 10\nnode 0 bytes 1 output 0 4\nend\n"
 )
 
 
@@ -213,7 +213,10 @@ NONE_OF_BOTH = (
 NONE_BOOSTING = (
     b"none: FAULTS 5 takes MOST_NODES of at least 20; MOST_NODES 14 allows FAULTS of at most 4\n"
 )
-NONE_AT_ALL = b"none: FAULTS 40 is more than any boosting plan of at most 256 nodes tolerates; "
+NONE_AT_ALL = (
+    b"none: FAULTS 40 is more than any boosting plan of at most 256 nodes, 16 blocks a level "
+    b"and a modulus of 2^40 tolerates; "
+)
 
 
 def choose_cases():

@@ -12,4 +12,4 @@ help_text = concat (
     ∷ codes "The attacks are drawn from SEED, and of these kinds, or of all.\n" ∷ [])
 
 abbrev pub version_text : List ℕ
-version_text = codes "attack 1.0\n"
+version_text = codes "attack 2.0\n"

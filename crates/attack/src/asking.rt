@@ -76,7 +76,7 @@ pub fn answer<S: Source, K: Sink>(
             Ok(None)
         }
         Asked::Version => {
-            put_all(sink, b"attack 1.0\n")?;
+            put_all(sink, b"attack 2.0\n")?;
             Ok(None)
         }
         Asked::Request(numbers) => {

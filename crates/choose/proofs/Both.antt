@@ -5,18 +5,19 @@ use Rattle.std.specs.Prelude.{Some}
 use Rattle.std.specs.Int.{div_ceil}
 use Rattle.std.proofs.lemmas.List.Elements.{All-nil, All-cons}
 use Rattle.std.proofs.Math.Nat.{pow-le-pow_left, pow-le-pow_right, mul-le-mul}
-use Rattle.construction.specs.Plans.{Level, Plan, bound_of}
+use Rattle.construction.specs.Plans.{Level, Plan, bound_of, plan_nodes, plan_faults, plan_modulus}
 use Rattle.plan_numbers.specs.Numbers.{below_of}
 use Rattle.plan_numbers.proofs.Accepted.{meets, accepted_sized}
 use Rattle.plan_finder.specs.Steps.{cost_of}
 use Rattle.halving_plan.specs.Trees.{tree_bound}
 use Rattle.halving_plan.proofs.Numbers.{bound_of_tree}
-use Rattle.halving_plan.specs.Plans.{HalvingNumbers, tree_of}
+use Rattle.halving_plan.specs.Plans.{tree_of}
 use Rattle.halving_plan.specs.Plans as halving
 use Rattle.halving_plan.proofs.Trees.{bounds_rise}
 use Rattle.choose.specs.declared.any_plans.AnyPlan.{AnyPlan}
 use Rattle.choose.specs.declared.any_plans.AnyPlan.TheVariants.{Boosting, Halving}
 use Rattle.choose.specs.Fronts.{Bears}
+use Rattle.choose.specs.Compared.{fewest, BoostingIsOutdone}
 use Rattle.choose.specs.FrontsOfBoth as both
 use Rattle.choose.specs.FrontsOfBoth.{Tolerates, Suits, IsNoWorse, IsFrontOfBoth}
 use Rattle.choose.proofs.Lower.{plan_of, bound_top}
@@ -24,14 +25,14 @@ use Rattle.choose.proofs.Least.{lone_least}
 
 -- ---- plans of the boosting construction
 
--- the least span of a level that tolerates f faults is more than 42 rounds for each
+-- the least span of a level that tolerates f faults is more than 48 rounds for each
 power_some : (b k : ℕ) → 4 ≤ b → 2 ≤ k → 16 ≤ b ^ k
 power_some b k large some =
     let more : 4 ^ 2 ≤ 4 ^ k = pow-le-pow_right (omega arith) some in
     let all : 4 ^ k ≤ b ^ k = pow-le-pow_left large k in
     omega (arith, more, all)
 
-cost_some : (k f : ℕ) → 3 ≤ k → 42 * f ≤ cost_of k f
+cost_some : (k f : ℕ) → 3 ≤ k → 48 * f < cost_of k f
 cost_some k f some =
     let power : 16 ≤ (2 * div_ceil k 2) ^ k =
     power_some (2 * div_ceil k 2) k (omega (arith, some)) (omega (arith, some)) in
@@ -40,7 +41,7 @@ cost_some k f some =
     omega (arith, all)
 
 slow_by : (n f : ℕ) → 1 ≤ f → (version base : ℕ) (levels : List Level)
-    → Bears n f (plan_of version base levels) → 42 * f ≤ bound_of levels
+    → Bears n f (plan_of version base levels) → 48 * f < bound_of levels
 slow_by n f some version base [] bears = absurd (omega (arith, some, bears.faults))
 slow_by n f some version base (level ∷ below) bears =
     let met = meets (below_of base below) level (bears.accepted.levels.1) in
@@ -98,9 +99,6 @@ lone_front c most some least_c most_c =
 
 -- ---- some faults
 
-abbrev pub fewest : (f c : ℕ) → HalvingNumbers
-fewest f c = record { nodes = 3 * f + 1; faults = f; modulus = c }
-
 pub fewest_accepted : (f c : ℕ) → 1 ≤ f → f ≤ 85 → 2 ≤ c → c ≤ 2 ^ 40
     → halving.IsAccepted (fewest f c)
 fewest_accepted f c some few least_c most_c = record {
@@ -137,3 +135,21 @@ module _ (f c most : ℕ) (some : 1 ≤ f) (few : f ≤ 85) (least_c : 2 ≤ c) 
     omega (arith, more_nodes most f other tolerates),
     no_slower other tolerates,
   ))
+
+-- ---- a boosting plan
+
+pub boosting_is_outdone : BoostingIsOutdone
+boosting_is_outdone plan accepted some =
+    let f = plan_faults plan in
+    let sized = accepted_sized plan.base plan.levels accepted.levels in
+    let quorum = sized.quorum in
+    let few : f ≤ 85 = omega (arith, quorum, sized.most) in
+    let fast = bound_of_tree f (3 * f + 1 - (3 * f + 1)) in
+    let slow = slow_by (plan_nodes plan) f some plan.version plan.base plan.levels
+    (record { accepted = accepted; nodes = omega arith; faults = omega arith }) in
+    record {
+      accepted = fewest_accepted f (plan_modulus plan) some few sized.least_modulus
+          sized.most_modulus;
+      nodes = omega (arith, quorum);
+      bound = omega (arith, fast, slow);
+    }

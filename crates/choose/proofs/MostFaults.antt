@@ -8,7 +8,8 @@ use Rattle.choose.specs.declared.any_plans.AnyPlan.{AnyPlan}
 use Rattle.choose.specs.declared.any_plans.AnyPlan.TheVariants.{Boosting, Halving}
 use Rattle.choose.specs.FrontsOfBoth.{faults_of, bound_of}
 use Rattle.choose.specs.MostFaults.{IsWithin, IsMost, AreMost, halving_bound}
-use Rattle.choose.proofs.Both.{quorum_of, no_slower, lone_front, fewest, fewest_front}
+use Rattle.choose.specs.Compared.{fewest}
+use Rattle.choose.proofs.Both.{quorum_of, no_slower, lone_front, fewest_front}
 use Rattle.choose.proofs.Lower.{plan_of}
 
 -- spare nodes cost no time

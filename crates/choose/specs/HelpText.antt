@@ -16,4 +16,4 @@ help_text = concat (
     ∷ codes "NODES nodes (1 to 256) and a bound of at most BOUND rounds.\n" ∷ [])
 
 abbrev pub version_text : List ℕ
-version_text = codes "choose 1.0\n"
+version_text = codes "choose 2.0\n"

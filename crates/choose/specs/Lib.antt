@@ -1,5 +1,6 @@
 pub mod Fronts
 pub mod FrontsOfBoth
+pub mod Compared
 pub mod Least
 pub mod FrontText
 pub mod FrontsOfBothText

@@ -6,12 +6,14 @@ ghost use Rattle.choose.specs.Conduct.{Answers, DoesAsked, Explains, ExplainsWan
 ghost use Rattle.choose.specs.FrontText.{TextsArePlans};
 ghost use Rattle.choose.specs.FrontsOfBothText.{HalvingTextsArePlans};
 ghost use Rattle.choose.specs.Shortages.{ModulusDecidesNothing};
+ghost use Rattle.choose.specs.Compared.{BoostingIsOutdone};
 ghost use Rattle.choose.specs.declared.requests.Request.TheVariants as request;
 ghost use Rattle.plan_finder.specs.FindPart.{IsFit};
 
 use crate::fronts::front;
 use crate::fronts_of_both::front_of_both;
-use crate::laws::{halving_texts_are_plans, modulus_decides_nothing, texts_are_plans};
+use crate::laws::{boosting_is_outdone, halving_texts_are_plans};
+use crate::laws::{modulus_decides_nothing, texts_are_plans};
 use crate::most_faults::most_plan;
 use crate::reasons::ChooseError;
 use crate::requests::{Request, Room, Scope, request_of};
@@ -170,12 +172,17 @@ pub fn choose<K: Sink>(alloc: Global, words: &[String], sink: &mut K) -> Result<
     // And what is written of a plan is read as that plan.
     ensures read { TextsArePlans }
     ensures halving_read { HalvingTextsArePlans }
+
+    // The halving plan of as many faults and the same modulus has no more nodes than a boosting
+    // plan that tolerates a fault, and a lesser bound.
+    ensures outdone { BoostingIsOutdone }
 {
     texts_are_plans();
     halving_texts_are_plans();
+    boosting_is_outdone();
     match asked_by(words, request_of(words)) {
         Asked::Help => Ok(put_all(sink, HELP)?),
-        Asked::Version => Ok(put_all(sink, b"choose 1.0\n")?),
+        Asked::Version => Ok(put_all(sink, b"choose 2.0\n")?),
         Asked::Request(request) => write_answer(alloc, request, sink),
         Asked::Nothing => Err(ProgramError::Usage),
     }

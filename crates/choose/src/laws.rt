@@ -3,6 +3,7 @@
 ghost use Rattle.choose.specs.FrontText.{TextsArePlans};
 ghost use Rattle.choose.specs.FrontsOfBothText.{HalvingTextsArePlans};
 ghost use Rattle.choose.specs.Shortages.{ModulusDecidesNothing};
+ghost use Rattle.choose.specs.Compared.{BoostingIsOutdone};
 
 /// The text of an accepted plan of version 2 is read as that plan, and is what a line says of the
 /// plan, with a newline in place of each semicolon.
@@ -20,4 +21,10 @@ pub fn halving_texts_are_plans()
 /// those that are looked at, whatever it counts by, tolerates the faults within the nodes.
 pub fn modulus_decides_nothing()
     ensures { ModulusDecidesNothing }
+{}
+
+/// Every boosting plan that tolerates a fault has at least as many nodes as the halving plan of as
+/// many faults and the same modulus, and a greater bound.
+pub fn boosting_is_outdone()
+    ensures { BoostingIsOutdone }
 {}

@@ -13,4 +13,4 @@ help_text = concat (
     ∷ codes "pointer what the text says of it.\n" ∷ [])
 
 abbrev pub version_text : List ℕ
-version_text = codes "draw 1.0\n"
+version_text = codes "draw 2.0\n"

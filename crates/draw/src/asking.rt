@@ -49,7 +49,7 @@ pub fn answer<S: Source, K: Sink>(
     echoes_are_plain();
     match asked_by(words, request_of(words)) {
         Asked::Help => Ok(put_all(sink, HELP)?),
-        Asked::Version => Ok(put_all(sink, b"draw 1.0\n")?),
+        Asked::Version => Ok(put_all(sink, b"draw 2.0\n")?),
         Asked::Request(form) => draw_input(alloc, form, source, sink),
         Asked::Nothing => Err(ProgramError::Usage),
     }

@@ -1,11 +1,15 @@
 -- The bits of a group are those of its level and the most that a half has.
-use Rattle.std.proofs.Common.{◌≡◌, ℕ, ◌+◌, ◌-◌, ◌*◌, ◌<◌, max, sym, ap, ap₂, ◌∙◌}
+use Rattle.std.proofs.Common.{◌≡◌, ℕ, ◌+◌, ◌-◌, ◌*◌, ◌<◌, ◌≤◌, max, sym, ap, ap₂, ◌∙◌}
 use Rattle.halving_plan.specs.Halves.{Halves, left_period, right_period}
 use Rattle.halving_plan.specs.Trees.{Tree, left_part, right_part}
 use Rattle.halving_plan.specs.Groups.{HalvingGroup, IsGroup, tree_in, left_of, right_of, sizes_of}
+use Rattle.halving_plan.specs.Groups.{half_in}
+use Rattle.halving_plan.specs.Fields.{fields_by}
 use Rattle.halving_plan.proofs.Trees.{split_of}
 use Rattle.halving_plan.proofs.Halves.{left_tree, right_tree, half_tree, halves_are}
-use Rattle.halving_plan.specs.Sizes.{level_bits, most_bits}
+use Rattle.halving_plan.specs.Sizes.{fields_bits, level_bits, most_bits}
+use Rattle.halving_plan.proofs.GroupFields.{fields_by_level, fields_in_half}
+use Rattle.halving_plan.proofs.Most.{with_level_bits}
 
 -- of a level over two trees
 abbrev bits_over : (left right : Tree) (halves : Halves) (modulus : ℕ) → ℕ
@@ -28,3 +32,13 @@ bits_by_level group is some =
     ∙ (ap (λ g. bits_over left right g c) (halves_are group is some)
     ∙ ap₂ (λ l r. bits_over l r (sizes_of group) c) (sym (half_tree (left_part f)))
     (sym (half_tree (right_part f))))
+
+-- and those of a node are those of the level and what it has in its half
+pub node_by_level : (group : HalvingGroup) (v : ℕ) → IsGroup group → 0 < group.faults
+    → group.first ≤ v
+    → fields_bits (fields_by group v)
+    ≡ level_bits (sizes_of group) group.modulus
+    + fields_bits (fields_in_half (half_in group v) v)
+node_by_level group v is some from =
+    ap fields_bits (fields_by_level group v is some from)
+    ∙ with_level_bits (sizes_of group) group.modulus (fields_in_half (half_in group v) v)

@@ -41,3 +41,4 @@ pub mod Most
 pub mod WrittenBits
 pub mod Examples
 pub mod Lead
+pub mod OutputPlaces

@@ -16,11 +16,12 @@ use Rattle.halving_plan.specs.Sizes.{register_bits, fields_bits, level_bits, mos
 use Rattle.halving_plan.specs.Sizes.{BitsAreMost}
 
 -- no bits hold the one value that there is
-width_one : width 1 ≡ 0
+pub width_one : width 1 ≡ 0
 unfolding width
 width_one = refl
 
-with_level_bits : (halves : Halves) (c : ℕ) (below : Fields)
+-- two registers more
+pub with_level_bits : (halves : Halves) (c : ℕ) (below : Fields)
     → fields_bits (with_level halves c below) ≡ level_bits halves c + fields_bits below
 with_level_bits halves c below =
     omega (

@@ -17,3 +17,4 @@ pub mod Groups
 pub mod Fields
 pub mod Laws
 pub mod Sizes
+pub mod OutputPlaces

@@ -22,6 +22,10 @@ fields_bits fields = width fields.base + sum_by register_bits fields.moduli
 abbrev pub node_bits : HalvingNumbers → (v : ℕ) → ℕ
 node_bits plan v = fields_bits (fields_of plan v)
 
+-- and the bytes that they fill, the last one perhaps in part
+abbrev pub node_bytes : HalvingNumbers → (v : ℕ) → ℕ
+node_bytes plan v = div_ceil (node_bits plan v) 8
+
 -- bits of the registers of a level
 abbrev pub level_bits : Halves → (modulus : ℕ) → ℕ
 level_bits halves modulus = register_bits modulus + register_bits (left_period halves)
@@ -37,7 +41,7 @@ most_bits (Split left right spares) modulus =
 abbrev pub state_bits : HalvingNumbers → ℕ
 state_bits plan = most_bits (tree_of plan) plan.modulus
 
--- the bytes that these bits fill, the last one perhaps in part
+-- and the bytes that they fill
 abbrev pub state_bytes : HalvingNumbers → ℕ
 state_bytes plan = div_ceil (state_bits plan) 8
 

@@ -1,7 +1,9 @@
 ghost use Rattle.std.specs.Prelude.{◌≡◌, ◌<◌, ◌≤◌, ◌+◌, ◌*◌, ◌^◌};
 ghost use Rattle.halving_plan.specs.Groups.{tree_in, sizes_of};
-ghost use Rattle.halving_plan.specs.Sizes.{register_bits, level_bits, most_bits, state_bits};
-ghost use Rattle.halving_plan.specs.Sizes.{state_bytes, levels_of};
+ghost use Rattle.halving_plan.specs.Fields.{fields_by};
+ghost use Rattle.halving_plan.specs.Sizes.{register_bits, fields_bits, level_bits, most_bits};
+ghost use Rattle.halving_plan.specs.Sizes.{node_bits, node_bytes, state_bits, state_bytes};
+ghost use Rattle.halving_plan.specs.Sizes.{levels_of};
 
 use crate::{Group, HalvingPlan};
 use plan_numbers::width;
@@ -23,6 +25,36 @@ fn level_bits(group: &Group) -> u32
 {
     group.facts();
     register_bits(group.modulus()) + register_bits(group.left_period())
+}
+
+/// How many bits the states of a node in a group take.
+fn bits_of(group: &Group, node: u32) -> u32
+    requires { group.now.first ≤ node }
+    ensures value { result ≡ fields_bits (fields_by group.now node) }
+    ensures most { result ≤ 40 + 84 * group.now.faults }
+{
+    group.facts();
+    if group.faults() == 0 {
+        return width(group.modulus());
+    }
+    match group.half_of(node) {
+        Some(half) => level_bits(group) + bits_of(&half, node),
+        None => level_bits(group),
+    }
+}
+
+/// How many bits the states of a node take.
+pub fn node_bits(plan: &HalvingPlan, node: u32) -> u32
+    ensures { result ≡ node_bits plan.now node }
+{
+    bits_of(&plan.whole(), node)
+}
+
+/// How many bytes hold these bits.
+pub fn node_bytes(plan: &HalvingPlan, node: u32) -> u64
+    ensures { result ≡ node_bytes plan.now node }
+{
+    u64::from(node_bits(plan, node).div_ceil(8))
 }
 
 /// The most bits that the state of a node in a group takes.

@@ -1,5 +1,5 @@
 ghost use Rattle.std.specs.Prelude.{◌≡◌, ◌+◌, ◌*◌, ◌≤◌, ◌<◌, IfSome};
-ghost use Rattle.halving_plan.specs.Halves.{right_period, right_share, left_period};
+ghost use Rattle.halving_plan.specs.Halves.{right_period, right_share, left_share, left_period};
 ghost use Rattle.halving_plan.specs.Trees.{left_part, right_part};
 ghost use Rattle.halving_plan.specs.Groups.{HalvingGroup, IsGroup, IsHalf, left_of, right_of, half_in};
 ghost use Rattle.halving_plan.specs.Groups.{sizes_of};
@@ -151,13 +151,22 @@ impl Group {
         self.right_period() + 2
     }
 
+    /// How many rounds of its left half's period are the left half's own share, if it has halves.
+    pub fn left_share(&self) -> u64
+        requires { 0 < self.now.faults }
+        ensures { result ≡ left_share (sizes_of self.now) }
+    {
+        self.facts();
+        3 * (u64::from(self.left_faults()) + 1)
+    }
+
     /// The modulus that its left half counts by, if it has halves.
     pub fn left_period(&self) -> u64
         requires { 0 < self.now.faults }
         ensures { result ≡ left_period (sizes_of self.now) }
     {
         self.facts();
-        self.right_share() + 3 * (u64::from(self.left_faults()) + 1)
+        self.right_share() + self.left_share()
     }
 
     /// The left half, of a group that has halves.

@@ -12,7 +12,7 @@ use Rattle.halving_plan.specs.declared.premises.HalvingPremise.{HalvingPremise}
 use Rattle.halving_plan.specs.Plans.{HalvingNumbers, first_premise, IsAccepted}
 use Rattle.halving_plan.specs.Groups.{whole_of}
 use Rattle.halving_texts.proofs.Accepted.{accepted_none, none_accepted}
-use Rattle.halving_texts.specs.Tables.{sizes_line, group_lines, table_text}
+use Rattle.halving_texts.specs.Tables.{sizes_line, group_lines, node_lines, table_text}
 use Rattle.halving_texts.specs.Reading.{differs_at, unless_fails, plan_with, plan_by, stated_by}
 use Rattle.halving_texts.specs.Reading.{stated_in, unless_differs, compared}
 use Rattle.halving_texts.specs.TableLaws.{TablesAreRead, OnlyTablesAreRead}
@@ -29,13 +29,15 @@ after_plan plan =
     ∷ codes "modulus" ∷ decimal plan.modulus ∷ []
 
 abbrev after_lines : HalvingNumbers → List ℕ
-after_lines plan = sizes_line plan ++ (group_lines (whole_of plan) ++ codes "end\n")
+after_lines plan =
+    sizes_line plan ++ (group_lines (whole_of plan) ++ (node_lines plan ++ codes "end\n"))
 
 lines_text : (plan : HalvingNumbers) → table_text plan
     ≡ first_line ++ 10 ∷ (joined (codes "plan" ∷ after_plan plan) ++ 10 ∷ after_lines plan)
 lines_text plan =
     let s = sizes_line plan in
     let g = group_lines (whole_of plan) in
+    let n = node_lines plan in
     simp (append_assoc, append-nil)
 
 first_plain : ArePlain (codes "table" ∷ codes "halving" ∷ codes "1" ∷ [])

@@ -46,7 +46,7 @@ stated_in lines = None
 
 -- the first line that differs from each table, of a text that states no plan
 abbrev pub unstated : List ℕ → ℕ
-unstated text = if bytes_eq (take 15 text) (codes "table halving 1\n") then 2 else 1
+unstated text = if bytes_eq (take 16 text) (codes "table halving 1\n") then 2 else 1
 
 -- the plan, unless that line differs
 abbrev pub unless_differs : Option ℕ → HalvingNumbers → Result HalvingNumbers ℕ

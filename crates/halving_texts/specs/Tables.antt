@@ -1,12 +1,13 @@
--- The table of a plan: its numbers, and those of each of its groups, line by line.
-use Rattle.std.specs.Prelude.{ℕ, zero, suc, ◌-◌, List, [], ◌∷◌, ◌++◌, ◌==◌, if◌then◌else◌, codes}
-use Rattle.std.specs.Prelude.{decimal}
-use Rattle.std.specs.List.{concat}
-use Rattle.halving_plan.specs.Halves.{left_period, right_period}
+-- The table of a plan: its numbers, and those of each of its groups and nodes, line by line.
+use Rattle.std.specs.Prelude.{ℕ, zero, suc, ◌+◌, ◌-◌, List, [], ◌∷◌, ◌++◌, ◌==◌, if◌then◌else◌}
+use Rattle.std.specs.Prelude.{codes, decimal}
+use Rattle.std.specs.List.{concat, flat_map, range_with_len}
+use Rattle.halving_plan.specs.Halves.{right_share, left_share, right_period}
 use Rattle.halving_plan.specs.Trees.{tree_bound}
 use Rattle.halving_plan.specs.Plans.{HalvingNumbers, tree_of}
 use Rattle.halving_plan.specs.Groups.{HalvingGroup, left_of, right_of, whole_of, sizes_of}
-use Rattle.halving_plan.specs.Sizes.{state_bits, state_bytes, levels_of}
+use Rattle.halving_plan.specs.Sizes.{state_bits, state_bytes, levels_of, node_bytes}
+use Rattle.halving_plan.specs.OutputPlaces.{output_start, output_bits}
 
 -- the first two lines: what the text is, and the plan
 abbrev pub plan_line : HalvingNumbers → List ℕ
@@ -39,11 +40,16 @@ group_front group = concat (
 abbrev pub spares_of : HalvingGroup → ℕ
 spares_of group = group.nodes - (left_of group).nodes - (right_of group).nodes
 
--- what its halves count by, and how many nodes are in none of them
+-- Of a period of the left half the right half's share; then how many instructions the left half's
+-- kings have, and the right half's, and how many kings each half has; and how many nodes are in no
+-- half.
 abbrev pub halves_end : HalvingGroup → List ℕ
 halves_end group = concat (
-    codes " left " ∷ decimal (left_period (sizes_of group))
+    codes " share " ∷ decimal (right_share (sizes_of group))
+    ∷ codes " left " ∷ decimal (left_share (sizes_of group))
     ∷ codes " right " ∷ decimal (right_period (sizes_of group))
+    ∷ codes " kings " ∷ decimal ((left_of group).faults + 1)
+    ∷ codes " " ∷ decimal ((right_of group).faults + 1)
     ∷ codes " spares " ∷ decimal (spares_of group)
     ∷ codes "\n" ∷ [])
 
@@ -64,9 +70,23 @@ lines_within (suc depth) group =
 abbrev pub group_lines : HalvingGroup → List ℕ
 group_lines group = lines_within group.faults group
 
+-- a node: how many bytes its states have, and from which of their bits on its output stands, and in
+-- how many
+abbrev pub node_line : HalvingNumbers → (v : ℕ) → List ℕ
+node_line plan v = concat (
+    codes "node " ∷ decimal v
+    ∷ codes " bytes " ∷ decimal (node_bytes plan v)
+    ∷ codes " output " ∷ decimal (output_start plan v)
+    ∷ codes " " ∷ decimal (output_bits plan)
+    ∷ codes "\n" ∷ [])
+
+abbrev pub node_lines : HalvingNumbers → List ℕ
+node_lines plan = flat_map (node_line plan) (range_with_len 0 plan.nodes)
+
 abbrev pub table_text : HalvingNumbers → List ℕ
 table_text plan = concat (
     plan_line plan
     ∷ sizes_line plan
     ∷ group_lines (whole_of plan)
+    ∷ node_lines plan
     ∷ codes "end\n" ∷ [])

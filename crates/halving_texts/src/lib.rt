@@ -6,13 +6,17 @@
 //! an input, or line by line, as from a feed; and it is written. The first line that fails is
 //! refused, with the first premise that it fails. No memory is taken.
 //!
-//! A table has the plan's numbers, and those of each of its groups: the lines `table halving 1`,
-//! `plan nodes N faults F modulus C`, and `bound T levels L bits W bytes Y`, where W and Y are
-//! those of the node whose states take most; then for each group, a group before its halves and the
-//! left half before the right one, the line `group V nodes N faults F modulus C left P right R
-//! spares S`, with its first node, what its halves count by and how many of its nodes are in none
-//! of them, or, for a node alone, `group V nodes 1 faults 0 modulus C`; then `end`. Each line ends
-//! with a newline. A table is read back, and refused at its first line that is not as it has to be.
+//! A table has the plan's numbers, and those of each of its groups and nodes: the lines
+//! `table halving 1`, `plan nodes N faults F modulus C`, and `bound T levels L bits W bytes Y`,
+//! where W and Y are those of the node whose states take most. Then comes for each group, a group
+//! before its halves and the left half before the right one, the line `group V nodes N faults F
+//! modulus C share K left A right B kings G H spares S`: its first node, its numbers, the right
+//! half's share of the left half's period, how many instructions the kings of the left and of the
+//! right half have, how many kings these are, and how many of its nodes are in no half; or, for a
+//! node alone, `group V nodes 1 faults 0 modulus C`. Then comes for each node the line `node V bytes
+//! B output I W`: how many bytes its states have, from which of their bits on its output stands, and
+//! in how many. The last line is `end`, and each ends with a newline. A table is read back, and
+//! refused at its first line that is not as it has to be.
 //!
 //! A header is a halving part, and then the part of a node with its id and state. [`HalvingNodes`] are
 //! the nodes that read a header and packets; [`node_laws`] has what calls of them promise if they

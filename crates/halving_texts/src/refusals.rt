@@ -18,7 +18,7 @@ pub struct HalvingRefusal {
 #[derive(Clone, Copy, Debug, PartialEq, Eq, Error)]
 pub enum HalvingError {
     /// The text states no accepted plan: its first line that fails.
-    #[error("line {} of the halving fails the premise {}", .0.line, .0.premise.word())]
+    #[error("line {} of the halving plan fails the premise {}", .0.line, .0.premise.word())]
     Refused(HalvingRefusal),
     /// Memory was refused.
     #[error("out of memory")]

@@ -2,10 +2,12 @@ ghost use Rattle.std.specs.Prelude.{◌≡◌, ◌<◌};
 ghost use Rattle.texts.specs.Growth.{Puts};
 ghost use Rattle.edge_io.specs.Writing.{Writes};
 ghost use Rattle.halving_texts.specs.Tables.{plan_line, sizes_line, group_front, halves_end};
-ghost use Rattle.halving_texts.specs.Tables.{spares_of, group_line, group_lines, table_text};
+ghost use Rattle.halving_texts.specs.Tables.{spares_of, group_line, group_lines};
+ghost use Rattle.halving_texts.specs.Tables.{node_line, node_lines, table_text};
 
 use edge_io::{Piece, Sink, WriteFault, Writer};
-use halving_plan::{Group, HalvingPlan, levels, state_bits, state_bytes};
+use halving_plan::{Group, HalvingPlan, levels, node_bytes, output_bits, output_start};
+use halving_plan::{state_bits, state_bytes};
 
 fn put_plan<K: Sink>(writer: &mut Writer<'_, K>, plan: &HalvingPlan)
     ensures { Writes K.told (plan_line plan.now) writer.old writer.new }
@@ -66,10 +68,16 @@ fn put_halves_end<K: Sink>(writer: &mut Writer<'_, K>, group: &Group)
     ensures { Writes K.told (halves_end group.now) writer.old writer.new }
 {
     writer.pieces(&[
+        Piece::Text(b" share "),
+        Piece::Number(group.right_share()),
         Piece::Text(b" left "),
-        Piece::Number(group.left_period()),
+        Piece::Number(group.left_share()),
         Piece::Text(b" right "),
         Piece::Number(group.right_period()),
+        Piece::Text(b" kings "),
+        Piece::Number(u64::from(group.left().faults()) + 1),
+        Piece::Text(b" "),
+        Piece::Number(u64::from(group.right().faults()) + 1),
         Piece::Text(b" spares "),
         Piece::Number(spares(group)),
         Piece::Text(b"\n"),
@@ -100,12 +108,38 @@ fn put_groups<K: Sink>(writer: &mut Writer<'_, K>, group: &Group)
     put_groups(writer, &group.right());
 }
 
+fn put_node<K: Sink>(writer: &mut Writer<'_, K>, plan: &HalvingPlan, node: u32)
+    ensures { Writes K.told (node_line plan.now node) writer.old writer.new }
+{
+    writer.pieces(&[
+        Piece::Text(b"node "),
+        Piece::Number(u64::from(node)),
+        Piece::Text(b" bytes "),
+        Piece::Number(node_bytes(plan, node)),
+        Piece::Text(b" output "),
+        Piece::Number(u64::from(output_start(plan, node))),
+        Piece::Text(b" "),
+        Piece::Number(u64::from(output_bits(plan))),
+        Piece::Text(b"\n"),
+    ]);
+}
+
+/// The lines of all nodes.
+fn put_nodes<K: Sink>(writer: &mut Writer<'_, K>, plan: &HalvingPlan)
+    ensures { Writes K.told (node_lines plan.now) writer.old writer.new }
+{
+    for node in 0..plan.nodes() {
+        put_node(writer, plan, node);
+    }
+}
+
 fn put_table<K: Sink>(writer: &mut Writer<'_, K>, plan: &HalvingPlan)
     ensures { Writes K.told (table_text plan.now) writer.old writer.new }
 {
     put_plan(writer, plan);
     put_sizes(writer, plan);
     put_groups(writer, &plan.whole());
+    put_nodes(writer, plan);
     writer.text(b"end\n");
 }
 

@@ -16,7 +16,7 @@ use Rattle.halvinglab.specs.Worked.{NodesAreServed, WorkedValues}
 plans_are_spelled : PlansAreSpelled
 unfolding digits width
 plans_are_spelled =
-    record { text = refl; read = refl; skipped = refl; table = refl; deep = refl }
+    record { text = refl; read = refl; skipped = refl; alone = refl; table = refl; deep = refl }
 
 runs_are_spelled : RunsAreSpelled
 unfolding
@@ -89,6 +89,7 @@ lines_are_refused : LinesAreRefused
 unfolding digits width
 lines_are_refused = record {
   form = refl;
+  older = refl;
   limit = refl;
   modulus = refl;
   quorum = refl;

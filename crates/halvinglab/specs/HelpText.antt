@@ -12,7 +12,8 @@ help_text = concat (
     ∷ codes "or halvinglab node < HEADER_AND_PACKETS\n"
     ∷ codes "plan: reads a halving plan, the lines `halving 1`, `group N F C` and\n"
     ∷ codes "`end`, and writes its table: its numbers and bound, what a state\n"
-    ∷ codes "takes, and a line for each group, from all nodes down to single ones.\n"
+    ∷ codes "takes, a line for each group, from all nodes down to single ones, and\n"
+    ∷ codes "one for each node, with its bytes and where the output stands in them.\n"
     ∷ codes "run: reads a halving plan and a script for it, plays the script, and\n"
     ∷ codes "writes the bound, a row of what the nodes show in each configuration\n"
     ∷ codes "that is shown, and which configuration is the first locked one.\n"
@@ -27,4 +28,4 @@ help_text = concat (
     ∷ codes "and behind each packet, as bytes.\n" ∷ [])
 
 abbrev pub version_text : List ℕ
-version_text = codes "halvinglab 1.0\n"
+version_text = codes "halvinglab 2.0\n"

@@ -35,29 +35,39 @@ abbrev pub IsAnsweredBy : (text answer : List ℕ) → Type 0
 IsAnsweredBy text answer = run.text_of (answer_of whole.Plan text) ≡ answer
 
 -- A plan has this text, which is read as it; comments and empty lines may stand in it. And plans
--- have these tables, of one level of halves and of three.
+-- have these tables: of no level of halves, of one and of three.
 pub record PlansAreSpelled : Type 0 where
   pub text : halving_text thirteen ≡ thirteen_text
   pub read : whole_halving_of thirteen_text ≡ Ok thirteen
   pub skipped : whole_halving_of (codes "# a plan\nhalving 1\n\ngroup 13 4 10\nend\n") ≡ Ok thirteen
+  pub alone : table_text (record { nodes = 1; faults = 0; modulus = 8 })
+      ≡ codes "table halving 1\nplan nodes 1 faults 0 modulus 8\n"
+      ++ codes "bound 0 levels 0 bits 3 bytes 1\ngroup 0 nodes 1 faults 0 modulus 8\n"
+      ++ codes "node 0 bytes 1 output 0 3\nend\n"
   pub table : table_text (record { nodes = 4; faults = 1; modulus = 10 })
       ≡ codes "table halving 1\nplan nodes 4 faults 1 modulus 10\n"
       ++ codes "bound 16 levels 1 bits 13 bytes 2\n"
-      ++ codes "group 0 nodes 4 faults 1 modulus 10 left 8 right 3 spares 2\n"
-      ++ codes "group 0 nodes 1 faults 0 modulus 8\n"
-      ++ codes "group 1 nodes 1 faults 0 modulus 3\nend\n"
+      ++ codes "group 0 nodes 4 faults 1 modulus 10 share 5 left 3 right 3 kings 1 1 spares 2\n"
+      ++ codes "group 0 nodes 1 faults 0 modulus 8\ngroup 1 nodes 1 faults 0 modulus 3\n"
+      ++ codes "node 0 bytes 2 output 3 4\nnode 1 bytes 2 output 2 4\n"
+      ++ codes "node 2 bytes 2 output 0 4\nnode 3 bytes 2 output 0 4\nend\n"
   pub deep : table_text thirteen
       ≡ codes "table halving 1\nplan nodes 13 faults 4 modulus 10\n"
       ++ codes "bound 50 levels 3 bits 33 bytes 5\n"
-      ++ codes "group 0 nodes 13 faults 4 modulus 10 left 17 right 9 spares 2\n"
-      ++ codes "group 0 nodes 4 faults 1 modulus 17 left 8 right 3 spares 2\n"
-      ++ codes "group 0 nodes 1 faults 0 modulus 8\n"
-      ++ codes "group 1 nodes 1 faults 0 modulus 3\n"
-      ++ codes "group 4 nodes 7 faults 2 modulus 9 left 11 right 6 spares 2\n"
+      ++ codes "group 0 nodes 13 faults 4 modulus 10 share 11 left 6 right 9 kings 2 3 spares 2\n"
+      ++ codes "group 0 nodes 4 faults 1 modulus 17 share 5 left 3 right 3 kings 1 1 spares 2\n"
+      ++ codes "group 0 nodes 1 faults 0 modulus 8\ngroup 1 nodes 1 faults 0 modulus 3\n"
+      ++ codes "group 4 nodes 7 faults 2 modulus 9 share 8 left 3 right 6 kings 1 2 spares 2\n"
       ++ codes "group 4 nodes 1 faults 0 modulus 11\n"
-      ++ codes "group 5 nodes 4 faults 1 modulus 6 left 8 right 3 spares 2\n"
-      ++ codes "group 5 nodes 1 faults 0 modulus 8\n"
-      ++ codes "group 6 nodes 1 faults 0 modulus 3\nend\n"
+      ++ codes "group 5 nodes 4 faults 1 modulus 6 share 5 left 3 right 3 kings 1 1 spares 2\n"
+      ++ codes "group 5 nodes 1 faults 0 modulus 8\ngroup 6 nodes 1 faults 0 modulus 3\n"
+      ++ codes "node 0 bytes 4 output 3 4\nnode 1 bytes 3 output 2 4\n"
+      ++ codes "node 2 bytes 3 output 0 4\nnode 3 bytes 3 output 0 4\n"
+      ++ codes "node 4 bytes 4 output 4 4\nnode 5 bytes 5 output 3 4\n"
+      ++ codes "node 6 bytes 4 output 2 4\nnode 7 bytes 4 output 0 4\n"
+      ++ codes "node 8 bytes 4 output 0 4\nnode 9 bytes 3 output 0 4\n"
+      ++ codes "node 10 bytes 3 output 0 4\nnode 11 bytes 2 output 0 4\n"
+      ++ codes "node 12 bytes 2 output 0 4\nend\n"
 
 -- what the words `run` and `slots` write of a text
 abbrev pub IsRunAs : (text answer : List ℕ) → Type 0
@@ -216,11 +226,13 @@ pub record FourNodesAreSpelled : Type 0 where
       ++ codes "rounds 35\nshow 21 28\nend\n")
       (codes "bound 16\nentry 21 owner 2 2 2 2 *\nentry 28 owner 3 1 1 1 *\nlocked 0\n")
 
--- The first line of a plan that fails, by its number and its premise, each premise; and a line of
--- the node part of a header.
+-- The first line of a plan that fails, by its number and its premise, each premise; the first line
+-- of a plan of version 1.0; and a line of the node part of a header.
 pub record LinesAreRefused : Type 0 where
   pub form : IsAnsweredBy (codes "halving 1\n#\n\ngroup 04 1 10\nend\n")
       (codes "refused halving line 4 premise form\n")
+  pub older : IsAnsweredBy (codes "pulses 1\ngroup 4 1 10\nend\n")
+      (codes "refused halving line 1 premise form\n")
   pub limit : IsAnsweredBy (codes "halving 1\ngroup 257 0 10\nend\n")
       (codes "refused halving line 2 premise limit\n")
   pub modulus : IsAnsweredBy (codes "halving 1\ngroup 4 1 1\nend\n")

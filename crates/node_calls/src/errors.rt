@@ -14,7 +14,7 @@ pub enum CallError {
     #[error("line {} of the plan fails the premise {:?}", .0.line, .0.premise)]
     Refused(PlanRefusal),
     /// The text begins as a halving plan, and is no accepted one: its first line that fails.
-    #[error("line {} of the halving fails the premise {}", .0.line, .0.premise.word())]
+    #[error("line {} of the halving plan fails the premise {}", .0.line, .0.premise.word())]
     HalvingRefused(HalvingRefusal),
     /// The plan has no node of that id.
     #[error("no such node")]

@@ -11,4 +11,4 @@ help_text = concat (
     ∷ codes "form of each.\n" ∷ [])
 
 abbrev pub version_text : List ℕ
-version_text = codes "states 1.0\n"
+version_text = codes "states 2.0\n"

@@ -53,7 +53,7 @@ pub fn answer<S: Source, K: Sink>(
     states_are_spelled();
     match asked_by(words, request_of(words)) {
         Asked::Help => Ok(put_all(sink, HELP)?),
-        Asked::Version => Ok(put_all(sink, b"states 1.0\n")?),
+        Asked::Version => Ok(put_all(sink, b"states 2.0\n")?),
         Asked::Request(()) => turn_input(alloc, source, sink),
         Asked::Nothing => Err(ProgramError::Usage),
     }

@@ -14,4 +14,4 @@ help_text = concat (
     ∷ codes "Where standard error is a terminal, a line there says how far it is.\n" ∷ [])
 
 abbrev pub version_text : List ℕ
-version_text = codes "sweep 1.0\n"
+version_text = codes "sweep 2.0\n"

@@ -69,7 +69,7 @@ pub fn answer<S: Source, K: Sink, E: Sink>(
     sweeps_are_spelled();
     match asked_by(words, request_of(words)) {
         Asked::Help => Ok(put_all(sink, HELP)?),
-        Asked::Version => Ok(put_all(sink, b"sweep 1.0\n")?),
+        Asked::Version => Ok(put_all(sink, b"sweep 2.0\n")?),
         Asked::Request(numbers) => sweep_input(alloc, numbers, source, sink, progress),
         Asked::Nothing => Err(ProgramError::Usage),
     }

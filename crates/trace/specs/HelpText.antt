@@ -11,4 +11,4 @@ help_text = concat (
     ∷ codes "hear: of all nodes, or of these.\n" ∷ [])
 
 abbrev pub version_text : List ℕ
-version_text = codes "trace 1.0\n"
+version_text = codes "trace 2.0\n"

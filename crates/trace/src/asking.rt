@@ -34,7 +34,7 @@ fn write_help<K: Sink>(sink: &mut K) -> Result<(), WriteFault>
 fn write_version<K: Sink>(sink: &mut K) -> Result<(), WriteFault>
     ensures { Puts result version_text (K.told sink.old) (K.told sink.new) }
 {
-    put_all(sink, b"trace 1.0\n")
+    put_all(sink, b"trace 2.0\n")
 }
 
 /// Does what the words ask for. `FROM TO [NODE ..]` asks for a trace of the configurations from

@@ -4,10 +4,14 @@ use halving_texts::{TableError, read_table};
 /// The table of four nodes.
 const FOUR: &str = "table halving 1\n\
      plan nodes 4 faults 1 modulus 1000\n\
-     bound 41 levels 1 bits 28 bytes 4\n\
-     group 0 nodes 4 faults 1 modulus 1000 left 17 right 6 spares 2\n\
-     group 0 nodes 1 faults 0 modulus 17\n\
-     group 1 nodes 1 faults 0 modulus 6\n\
+     bound 16 levels 1 bits 19 bytes 3\n\
+     group 0 nodes 4 faults 1 modulus 1000 share 5 left 3 right 3 kings 1 1 spares 2\n\
+     group 0 nodes 1 faults 0 modulus 8\n\
+     group 1 nodes 1 faults 0 modulus 3\n\
+     node 0 bytes 3 output 3 10\n\
+     node 1 bytes 3 output 2 10\n\
+     node 2 bytes 2 output 0 10\n\
+     node 3 bytes 2 output 0 10\n\
      end\n";
 
 #[test]

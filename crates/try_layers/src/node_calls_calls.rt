@@ -101,7 +101,7 @@ const TEXTS: [(CallError, &str); 7] = [
             line: 2,
             premise: LinePremise::Plan(HalvingPremise::Single),
         }),
-        "line 2 of the halving fails the premise single",
+        "line 2 of the halving plan fails the premise single",
     ),
     (CallError::Node, "no such node"),
     (CallError::Length, "the state has another length"),

@@ -5,4 +5,5 @@ pub returns : goal.returns
 returns g c =
     writes_then c.put_plan.ensures
     (writes_then c.put_sizes.ensures
-    (writes_then (rw c.whole.ensures at c.put_groups.ensures) c.text.ensures))
+    (writes_then (rw c.whole.ensures at c.put_groups.ensures)
+    (writes_then c.put_nodes.ensures c.text.ensures)))
