@@ -46,6 +46,7 @@ LONGEST = b"\n" * LIMIT
 # A counter of one node, and its node in the state 4.
 ONE_NODE = b"plan 1\nbase 5\nend\nnode 1\nid 0\nstate 80\nend\n"
 CELL_OF_4 = b"\x00\x01\x80"
+CUT_AT_0 = b"the input ends in packet 0, the first being 0, in the cell of node 0\n"
 # Less room than this is not asked for, and the steps in which it grows.
 STEP = 2**16
 
@@ -74,32 +75,36 @@ def told(code, words, text, begin):
     return code, words, text, b"", begin
 
 
-def words_compared():
-    """0 if README.md has the words of the table of `outcomes` and no others, and else 1."""
+def command_words():
+    """How `counterlab` tells the words of the table of `outcomes`, which docs/FORMATS.md has too."""
     table = (CRATES / "outcomes" / "specs" / "Commands.antt").read_text()
     words = [*re.findall(r'row \(codes "(\w+)"\)', table), "demo SEED"]
-    rows = (TOP / "README.md").read_text().split("| word | reads | writes |")[1].split("\n\n")[0]
+    rows = (TOP / "docs" / "FORMATS.md").read_text().split("| word | reads | writes |")[1].split("\n\n")[0]
     told = [row.split("|")[1].replace("`", "").strip() for row in rows.splitlines()[2:]]
-    return (0 if sorted(words) == sorted(told) else 1,)
+    if sorted(words) != sorted(told):
+        sys.exit("statuses: docs/FORMATS.md has other words than the table of outcomes")
+    line = f"one of {', '.join(words[:-1])}, or {words[-1]}; the words are in `man counterlab`\n"
+    return line.encode()
 
 
 def counterlab_cases():
     liar, usage = example("runs/two_faced_liar"), b"usage: counterlab COMMAND\n"
+    words = command_words()
     return [
         stored(0, EXAMPLES, "runs/two_faced_liar", "run"),
         stored(1, EXAMPLES, "refused_plans/blocks", "plan"),
-        (2, (), liar, usage, b""),
-        (2, ("run", "run"), liar, usage, b""),
-        (2, ("demo", "seven"), b"", usage, b""),
+        (2, (), liar, usage, words),
+        (2, ("run", "run"), liar, usage, words),
+        (2, ("demo", "seven"), b"", usage, words),
         stored(3, EXAMPLES, "refused_scripts/faulty_node", "run"),
         stored(4, EXAMPLES, "certificates/no_end", "check"),
         stored(5, EXAMPLES, "certificates/row_differs", "check"),
         (1, ("plan",), LONGEST, b"refused plan line 1048577 premise form\n", b""),
         (0, ("node",), LONGEST[len(ONE_NODE):] + ONE_NODE, CELL_OF_4, b""),
-        *(told(8, (word,), TOO_LONG, b"") for word in ("run", "plan")),
-        told(8, ("node",), LONGEST[len(ONE_NODE) - 1:] + ONE_NODE, b""),
-        stored(9, FAULTS, "short/cut_packet", "node"),
-        (9, ("node",), ONE_NODE + b"\0", CELL_OF_4, b""),
+        *(told(8, (word,), TOO_LONG, b"the input is too long") for word in ("run", "plan")),
+        told(8, ("node",), LONGEST[len(ONE_NODE) - 1:] + ONE_NODE, b"the input is too long"),
+        (*stored(9, FAULTS, "short/cut_packet", "node")[:4], b"the input ends in packet "),
+        (9, ("node",), ONE_NODE + b"\0", CELL_OF_4, CUT_AT_0),
     ]
 
 
@@ -122,8 +127,8 @@ def rows_of(text):
 
 
 FOUR_HALVING = b"halving 1\ngroup 4 1 10\nend\n"
-NODE_OF_FOUR = FOUR_HALVING + b"node 1\nid 1\nstate 0000\nend\n"
-ZERO_CELL, CELL_BEHIND_ZEROS = b"\x00\x02\x00\x00", b"\x00\x02\x44\x00"
+NODE_OF_FOUR = FOUR_HALVING + b"node 1\nid 1\nstate 000000\nend\n"
+ZERO_CELL, CELL_BEHIND_ZEROS = b"\x00\x03\x00\x00\x00", b"\x00\x03\x22\x20\xd0"
 
 
 SLOTS_OF_FOUR = FOUR_HALVING + b"slots 1\nslot 1 8 9\nend\n"
@@ -201,7 +206,7 @@ def halvinglab_cases():
     ]
 
 
-FRONT_OF_BOTH = b"nodes 10 bound 44 bytes 4 levels 2 halving 1;group 10 3 1000;end\n"
+FRONT_OF_BOTH = b"nodes 10 bound 124 bytes 7 levels 2 halving 1;group 10 3 1000;end\n"
 NONE_OF_BOTH = (
     b"none: FAULTS 3 takes MOST_NODES of at least 10; MOST_NODES 9 allows FAULTS of at most 2\n"
 )
@@ -222,10 +227,10 @@ def choose_cases():
         (0, ["3", "1000", "9"], b"", b"none\n", NONE_OF_BOTH),
         (0, ["boosting", "5", "10", "14"], b"", b"none\n", NONE_BOOSTING),
         (0, ["boosting", "40", "10"], b"", b"none\n", NONE_AT_ALL),
-        (0, ["within", "14", "49", "1000"], b"", FRONT_OF_BOTH, b""),
+        (0, ["within", "14", "130", "1000"], b"", FRONT_OF_BOTH, b""),
         (0, ["within", "3", "0", "8", "plan"], b"", b"plan 2\nbase 8\nend\n", b""),
         told(2, [], b"", b"usage: choose "),
-        told(2, ["within", "0", "49", "1000"], b"", b"usage: choose "),
+        told(2, ["within", "0", "130", "1000"], b"", b"usage: choose "),
         told(2, ["1", "ten"], b"", b"usage: choose "),
     ]
 
@@ -451,18 +456,11 @@ def look_at(name, program, looks):
         looks.look(f"{name} check, of a record", verdict, record_checked, program)
         rows = rows_of((EXAMPLES / "records" / "too_many_liars_at_first.run.out").read_bytes())
         looks.look(f"{name} record, its rows", rows, rows_recorded, program)
-        looks.look("the words of README.md", 0, words_compared)
     else:  # counterlab has no such word
         said = (0, f"{name} {VERSION}\n".encode(), b"")
         looks.look(f"{name} --version", said, ended, program, ["--version"], input=b"")
     _, words, text, _, _ = CASES[name]()[0]
-    # what failed is said on standard error, of `counterlab` by the exit code alone
-    unread, unwritten, refused = [
-        b"" if name == "counterlab" else line
-        for line in (
-            b"the input could not be read", b"the answer could not be written", b"out of memory"
-        )
-    ]
+    unread, unwritten = b"the input could not be read", b"the answer could not be written"
     full = (7, None, unwritten)
     looks.look(f"{name}, output that is full", full, full_written, program, words, text)
     if name == "choose":  # it reads nothing, and takes little memory
@@ -471,7 +469,7 @@ def look_at(name, program, looks):
         for player in PLANS:
             looks.look(f"attack {kind}, {player} run", 0, attack_played, program, kind, player)
     looks.look(f"{name}, a folder as input", (6, b"", unread), folder_read, program, words)
-    looks.look(f"{name}, no memory", (10, b"", refused), memory_refused, program, words)
+    looks.look(f"{name}, no memory", (10, b"", b"out of memory"), memory_refused, program, words)
 
 
 def main():
