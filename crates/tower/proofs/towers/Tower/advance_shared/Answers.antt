@@ -60,8 +60,8 @@ write_registers-requires-clause-leads g c = λ l lt low.
 
 pub write_registers-requires-clause-out : goal.write_registers-requires-clause-out
 write_registers-requires-clause-out g c =
-    let has = has_node c.shared.invariant c.shared.view_is c.requires.plan c.requires.size
-    c.requires.node c.index-row.ensures in
+    let has = has_node c.shared.invariant c.shared.view_is (ap (λ (s : Shares). s.plan) c.requires.stands)
+    (shared_size _ _ _ c.requires.stands c.requires.size) c.requires.node c.index-row.ensures in
     let out = ap (λ (s : State). length s.registers) c.set_x.ensures in
     let depth = ap plan_depth has.plan_is in
     omega (arith, has.deep, out, depth, c.requires.out)
@@ -132,8 +132,8 @@ returns-clause-out g c =
 
 pub returns-clause-cost : goal.returns-clause-cost
 returns-clause-cost g c =
-    let has = has_node c.shared.invariant c.shared.view_is c.requires.plan c.requires.size
-    c.requires.node c.index-row.ensures in
+    let has = has_node c.shared.invariant c.shared.view_is (ap (λ (s : Shares). s.plan) c.requires.stands)
+    (shared_size _ _ _ c.requires.stands c.requires.size) c.requires.node c.index-row.ensures in
     let faulty : List ℕ = c.shared.inside.board.faulty in
     let all : 3 * length c.index-row.result.now.places.items * length faulty
     ≡ 3 * plan_depth c.args.self.now * length c.args.shared.now.faulty =
