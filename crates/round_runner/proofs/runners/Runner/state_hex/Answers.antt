@@ -3,8 +3,9 @@ use Rattle.construction.specs.Plans.{plan_nodes}
 use Rattle.construction.specs.Steps.{state_of}
 use Rattle.hex.specs.Hex.{encode_lower}
 use Rattle.state_codec.specs.Shapes.{Shape, fields_at, bytes_in}
+use Rattle.state_codec.specs.Writing.{bits_of_state, padding}
 use Rattle.state_codec.specs.Texts.{written_text}
-use Rattle.state_codec.proofs.Holding.{length-written}
+use Rattle.state_codec.proofs.Bytes.{length-bytes_of_bits}
 use Rattle.round_runner.specs.Runners.{Running}
 use Rattle.round_runner.proofs.runners.Runner.state_hex.Goals as goal
 
@@ -16,4 +17,8 @@ bytes-requires g c =
     omega (arith, node, kept.size, kept.right.nodes)
 
 pub returns-clause-digits : goal.returns-clause-digits
-returns-clause-digits g c = ?
+returns-clause-digits g c =
+    let own = fields_at c.self.inside.states.shape c.args.v in
+    let state = state_of c.self.inside.states.current c.args.v in
+    let long : length c.args.out.now ≡ 2 * length c.bytes.result.now = ? in
+    ?
