@@ -1,11 +1,12 @@
 //! Whether the lines, the kings' phases and the levels of a trace stand where they belong.
 
-ghost use Rattle.std.specs.Prelude.{◌≡◌, ◌≤◌, ◌<◌, ◌^◌, ℕ, All, AllPairs, true, IfSome, length};
+ghost use Rattle.std.specs.Prelude.{◌≡◌, ◌≢◌, ◌≤◌, ◌<◌, ◌^◌, ℕ, All, AllPairs, true, IfSome, length};
 ghost use Rattle.std.specs.Prelude.{slice_index_or};
 ghost use Rattle.trace_pictures.specs.declared.traces.KingPhase.{KingPhase};
 ghost use Rattle.std.specs.List.{count_by};
 ghost use Rattle.std.specs.List.Sorted.{IsStrictlyIncreasing};
-ghost use Rattle.trace_pictures.specs.TraceLaid.{AreApart, AreLinesLaid, AreStacked, HasTurn};
+ghost use Rattle.trace_pictures.specs.TraceLaid.{AreApart, AreDistinct, AreLinesLaid, AreStacked};
+ghost use Rattle.trace_pictures.specs.TraceLaid.{HasTurn, IsMemberOf, IsOfMember};
 ghost use Rattle.trace_pictures.specs.TraceLaid.{HasTurnOf, IsAtHeight, IsInStrip, IsNoteLaid};
 ghost use Rattle.trace_pictures.specs.TraceLaid.{IsStripOf};
 ghost use Rattle.trace_pictures.specs.TraceLaid.{IsTitleLaid, IsTraceLaid, IsTurnLaid, IsTurnOf};
@@ -70,15 +71,35 @@ fn is_at_height(levels: &[Level], place: u64, note: &Note) -> bool
     }
 }
 
+/// Whether a strip may have a line for a node: one of a group, for the nodes of the group.
+fn is_member(name: StripName, node: u64) -> bool
+    ensures { result ≡ true → IsMemberOf node name }
+{
+    match name {
+        StripName::Level(_) => true,
+        StripName::Group(group) => group.first <= node && node <= group.last,
+    }
+}
+
+/// Whether a line stands in a strip that may have one for its node, if it is on a register.
+fn is_of_member(node: u64, seen: &Seen) -> bool
+    ensures { result ≡ true → IsOfMember node seen.now }
+{
+    match seen {
+        Seen::Shows(_) => true,
+        Seen::Holds(register) => is_member(register.name, node),
+    }
+}
+
 /// Whether ids rise.
-pub fn ids_rise(ids: &[u64]) -> bool
+fn ids_rise(ids: &[u64]) -> bool
     ensures { result ≡ true → IsStrictlyIncreasing ids.now }
 {
     ids.windows(2).all(|pair| pair[0] < pair[1])
 }
 
 /// Whether the id at a place is that of a node.
-pub fn has_id(ids: &[u64], place: u64, node: u64) -> bool
+fn has_id(ids: &[u64], place: u64, node: u64) -> bool
     ensures { result ≡ true → (d : ℕ) → slice_index_or ids.now place d ≡ node }
 {
     let place = place as usize;
@@ -95,6 +116,7 @@ fn is_note_laid(levels: &[Level], nodes: u16, ids: &[u64], before: u64, note: &N
     u64::from(note.column) == before / u64::from(nodes)
         && has_id(ids, place, note.node)
         && note.is_first == (shows(note) && place == 0)
+        && is_of_member(note.node, &note.seen)
         && is_at_height(levels, place, note)
 }
 
@@ -264,6 +286,23 @@ fn are_titles_laid(levels: &[Level], titles: &[Title]) -> bool
     titles.iter().all(|title| is_title_laid(levels, *title))
 }
 
+/// Whether no strip has a name.
+fn lack_name(levels: &[Level], name: StripName) -> bool
+    ensures { result ≡ true → All (λ strip. strip.name ≢ name) levels.now }
+{
+    levels.iter().all(|strip| strip.name != name)
+}
+
+/// Whether no two strips have one name.
+fn are_distinct(levels: &[Level]) -> bool
+    ensures { result ≡ true → AreDistinct levels.now }
+{
+    match levels {
+        [] => true,
+        [strip, strips @ ..] => lack_name(strips, strip.name) && are_distinct(strips),
+    }
+}
+
 /// Whether strips stand one below the other, from one height to another.
 fn are_stacked(below: u64, from: u64, levels: &[Level], end: u32) -> bool
     ensures { result ≡ true → AreStacked below from levels.now end }
@@ -312,6 +351,9 @@ pub fn is_trace_laid(trace: &Trace) -> bool
         return false;
     }
     if !is_trace_said(trace) {
+        return false;
+    }
+    if !are_distinct(&trace.levels) {
         return false;
     }
     let from = u64::from(line_top(trace.nodes));
