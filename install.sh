@@ -3,8 +3,9 @@
 #
 #     ./install.sh PREFIX        as in: ./install.sh ~/.local
 #
-# It takes the kit (`rt version`). What is not built yet is proved and built first, from nothing an
-# hour and a quarter of one processor. The programs beside counterlab are installed as
+# It takes the kit (`rt version`), the toolchain that proves and builds; without it take the tar that
+# package.sh makes. What is not built yet is proved and built first, from nothing an hour and a
+# quarter of one processor. The programs beside counterlab are installed as
 # counterlab-NAME, since other packages have programs of those names too.
 set -eu
 [ $# -eq 1 ] || { echo "usage: ./install.sh PREFIX" >&2; exit 2; }
@@ -14,7 +15,7 @@ case $1 in
 esac
 cd "$(dirname "$0")"
 command -v rt > /dev/null || {
-    echo "install.sh: the kit is not here (rt); without it take the tar of package.sh" >&2
+    echo "install.sh: the kit is not here (rt); without it take a tar that package.sh made" >&2
     exit 1
 }
 page=$(rt doc) # in the kit's folder

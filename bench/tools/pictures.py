@@ -95,7 +95,7 @@ def layers():
 # ---- nodes against bounds
 
 WIDTH, TALL, AXIS = 560, 420, 78
-LEAST_NODES, MOST_NODES, LEAST_BOUND, MOST_BOUND = 3, 300, 20, 1e11
+LEAST_NODES, MOST_NODES, LEAST_BOUND, MOST_BOUND = 3, 300, 5, 1e11
 COLOURS = ["#1f77b4", "#ff7f0e", "#2ca02c", "#d62728", "#9467bd", "#8c564b", "#e377c2"]
 
 
@@ -129,7 +129,7 @@ def scales():
     for nodes in (4, 7, 10, 13, 20, 36, 61, 118, 256):
         x, y = at(nodes, LEAST_BOUND)
         out += line(x, 30, x, y, "#ddd") + text(x, y + 16, 11, nodes, MIDDLE)
-    for power in range(2, 11):
+    for power in range(1, 11):
         x, y = at(LEAST_NODES, 10**power)
         name = f'10<tspan dy="-4" font-size="8">{power}</tspan>'
         out += line(x, y, x + WIDTH, y, "#ddd") + text(x - 6, y + 4, 11, name, END)

@@ -1,4 +1,3 @@
-pub mod Positions
 pub mod RisingIds
 pub mod Taken
 pub mod WordBytes

@@ -29,7 +29,7 @@ use Rattle.adversary_script.specs.LieSteps.{group_at}
 use Rattle.adversary_script.specs.ScriptTexts.{group_in}
 use Rattle.adversary_script.specs.Writable.{IsKey, AreStarts, IsGroup, AreGroups, IsHeard}
 use Rattle.adversary_script.specs.Writable.{IsLie}
-use Rattle.adversary_script.proofs.Positions.{none_at}
+use Rattle.receiver_groups.proofs.Positions.{none_at}
 use Rattle.adversary_script.proofs.EraLists.{same_with_start}
 
 -- what a text says of a script, beside that it is well formed and for its counter

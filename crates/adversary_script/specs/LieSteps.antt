@@ -1,8 +1,8 @@
 -- The line of a lie, with its tests in their order.
+pub use Rattle.receiver_groups.specs.Groups.{group_at}
 use Rattle.std.specs.Prelude.{ℕ, List, [], ◌∷◌, ◌++◌, length, Bool, ◌||◌, not, nat_le, nat_lt}
-use Rattle.std.specs.Prelude.{Option, Some, None, Result, Ok, Err, position, if◌then◌else◌}
+use Rattle.std.specs.Prelude.{Option, Some, None, Result, Ok, Err, if◌then◌else◌}
 use Rattle.std.specs.Option.{option_map}
-use Rattle.std.specs.Str.{bytes_eq}
 use Rattle.sync_types.specs.declared.answers.Rule.{Rule}
 use Rattle.sync_types.specs.declared.answers.Rule.TheVariants.{Form, Limit, Node, Range, Hex, Name}
 use Rattle.sync_types.specs.States.{State}
@@ -23,10 +23,6 @@ use Rattle.adversary_script.specs.Tested.{tested}
 abbrev pub state_of_digits : Fields → List ℕ → Option State
 state_of_digits fields word =
     if is_state_text fields word then Some (read_text fields word) else None
-
--- the place of the group of a name
-abbrev pub group_at : List scripts.Group → List ℕ → Option ℕ
-group_at groups name = position (λ group. bytes_eq name group.name) groups
 
 -- who hears, if a name is that of a group
 abbrev pub who_of : List scripts.Group → WhoSaid → Option Who

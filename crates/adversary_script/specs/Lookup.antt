@@ -1,8 +1,8 @@
 -- The start line of a node, and the lie line that says what one node tells another in a round.
-use Rattle.std.specs.Prelude.{ℕ, List, Bool, true, false, ◌&&◌, nat_le, ◌==◌, Option, Some, None}
+pub use Rattle.receiver_groups.specs.Groups.{in_group}
+use Rattle.std.specs.Prelude.{ℕ, List, Bool, true, ◌&&◌, nat_le, ◌==◌, Option}
 use Rattle.std.specs.Prelude.{find, slice_get}
 use Rattle.std.specs.Option.{option_map, option_and_then}
-use Rattle.sync_types.specs.FaultSets.{is_in}
 use Rattle.sync_types.specs.States.{State}
 use Rattle.adversary_script.specs.declared.lies.Who.{Who}
 use Rattle.adversary_script.specs.declared.lies.Who.TheVariants.{All, Ids, Group}
@@ -10,11 +10,6 @@ use Rattle.adversary_script.specs.declared.lies.Lie.{Lie}
 use Rattle.adversary_script.specs.declared.lies.Start.{Start}
 use Rattle.adversary_script.specs.Scripts as scripts
 use Rattle.adversary_script.specs.Scripts.{Script}
-
--- whether v is in a group
-abbrev pub in_group : Option scripts.Group → ℕ → Bool
-in_group None v = false
-in_group (Some group) v = is_in group.ids v
 
 -- whether v is among those who hear
 abbrev pub hears : List scripts.Group → Who → ℕ → Bool

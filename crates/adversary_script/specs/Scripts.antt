@@ -1,4 +1,5 @@
 -- What a script says.
+pub use Rattle.receiver_groups.specs.Groups.{Group}
 use Rattle.std.specs.Prelude.{ℕ, ◌<◌, ◌≤◌, List, [], ◌∷◌, length, map, replicate, All, ⊤}
 use Rattle.std.specs.List.Sorted.{IsStrictlyIncreasing}
 use Rattle.state_codec.specs.Shapes.{Fields, Shape, fields_at}
@@ -9,11 +10,6 @@ use Rattle.adversary_script.specs.declared.lies.What.{What}
 use Rattle.adversary_script.specs.declared.lies.What.TheVariants as what
 use Rattle.adversary_script.specs.declared.lies.Lie.{Lie}
 use Rattle.adversary_script.specs.declared.lies.Start.{Start}
-
--- a named set of receivers
-pub record Group : Type 0 where
-  pub name : List ℕ
-  pub ids : List ℕ
 
 -- from configuration `first` on these nodes are faulty, and there some nodes are put into states
 pub record Era : Type 0 where

@@ -3,12 +3,8 @@ use Rattle.std.specs.Prelude.{◌≡◌, ℕ, [], map, Option, Some, None, All, 
 use Rattle.sync_types.specs.FaultSets.{FaultIds}
 use Rattle.state_codec.specs.Shapes.{Shape}
 use Rattle.adversary_script.specs.declared.parts.Era as kept
-use Rattle.adversary_script.specs.declared.parts.Group as named
 use Rattle.adversary_script.specs.declared.parts.Parts.{Parts}
-use Rattle.adversary_script.specs.Scripts.{Group, Era, Script}
-
-abbrev pub group_seen : named.Group → Group
-group_seen group = record { name = group.name.items; ids = group.ids.ids }
+use Rattle.adversary_script.specs.Scripts.{Era, Script}
 
 abbrev pub era_seen : kept.Era → Era
 era_seen era = record { first = era.first; faulty = era.faulty.ids; starts = era.starts.items }
@@ -24,7 +20,7 @@ script_seen shape faulty parts = record {
   common = parts.common;
   starts = parts.starts.items;
   eras = map era_seen parts.eras.items;
-  groups = map group_seen parts.groups.items;
+  groups = parts.groups;
   lies = parts.lies.items;
   rounds = parts.rounds;
   first = parts.first;

@@ -11,7 +11,7 @@ ghost use Rattle.adversary_script.specs.StartSteps.{started};
 
 use crate::lies::{CommonStart, Lie, Start};
 use crate::links::link;
-use crate::parts::{Era, Group, Parts, place_of};
+use crate::parts::{Era, Parts};
 use crate::scripts::Script;
 use state_codec::StateShape;
 use std::alloc::{AllocError, AllocFailed, Global};
@@ -147,16 +147,15 @@ impl<'a> Draft<'a> {
         })
     }
 
-    /// Adds a group after the others.
+    /// Adds a group of a new name after the others.
     pub fn add_group(&mut self, name: &[u8], ids: FaultSet) -> Result<(), AllocError>
+        requires { group_at self.old.groups name.now ≡ None }
         ensures { IfOk result
             (λ _. self.new
             ≡ record self.old
             { groups = self.old.groups ++ record { name = name.now; ids = ids.ids } ∷ [] }) }
     {
-        let name = Vec::from_slice(self.alloc, name)?;
-        self.parts.groups.push(Group { name, ids })?;
-        Ok(())
+        self.parts.groups.add(name, ids)
     }
 
     /// Adds a rule of lies.
@@ -302,7 +301,7 @@ impl<'a> Draft<'a> {
     pub fn group_at(&self, name: &[u8]) -> Option<usize>
         ensures { result ≡ group_at self.now.groups name.now }
     {
-        place_of(&self.parts.groups, name)
+        self.parts.groups.place_of(name)
     }
 
     /// How many rules of lies there are.

@@ -1,25 +1,15 @@
-ghost use Rattle.std.specs.Prelude.{◌≡◌, ◌<◌, ◌≤◌, true, slice_get, IfSome};
+ghost use Rattle.std.specs.Prelude.{◌≡◌, ◌<◌, ◌≤◌, true, IfSome};
 ghost use Rattle.std.specs.Option.{option_map};
 ghost use Rattle.state_codec.specs.Shapes.{fields_at};
 ghost use Rattle.adversary_script.specs.Scripts.{IsLying, most_rounds};
 ghost use Rattle.sync_types.specs.FaultSets.{is_in};
 ghost use Rattle.adversary_script.specs.Eras.{faulty_at};
-ghost use Rattle.adversary_script.specs.Lookup.{in_group, hears, speaks, lie_for};
+ghost use Rattle.adversary_script.specs.Lookup.{hears, speaks, lie_for};
 
 use crate::lies::{Lie, Who};
 use crate::scripts::Script;
 
 impl Script {
-    /// Whether a node is in the group at a place.
-    fn is_member(&self, group: usize, v: u32) -> bool
-        ensures { result ≡ in_group (slice_get self.now.groups group) v }
-    {
-        match self.parts.groups.get(group) {
-            Some(group) => group.ids.contains(v),
-            None => false,
-        }
-    }
-
     /// Whether a node is among those who hear a lie.
     fn hears(&self, who: Who, v: u32) -> bool
         ensures { result ≡ hears self.now.groups who v }
@@ -27,7 +17,7 @@ impl Script {
         match who {
             Who::All => true,
             Who::Ids(first, last) => first <= u64::from(v) && u64::from(v) <= last,
-            Who::Group(i) => self.is_member(i, v),
+            Who::Group(i) => self.parts.groups.contains(i, v),
         }
     }
 

@@ -1,9 +1,9 @@
-ghost use Rattle.std.specs.Prelude.{◌≡◌, position};
-ghost use Rattle.std.specs.Str.{bytes_eq};
+ghost use Rattle.std.specs.Prelude.{◌≡◌};
 ghost use Rattle.adversary_script.specs.Scripts.{empty_script};
 ghost use Rattle.adversary_script.specs.Seen.{script_seen};
 
 use crate::lies::{CommonStart, Lie, Start};
+use receiver_groups::Groups;
 use std::alloc::Global;
 use sync_types::FaultSet;
 
@@ -28,22 +28,6 @@ impl Drop for Era {
     }
 }
 
-/// A set of nodes that a lie may be told to, by its name.
-#[derive(Drop)]
-pub struct Group {
-    pub name: Vec<u8>,
-    pub ids: FaultSet,
-}
-
-/// The place of the first group of a name.
-pub fn place_of(groups: &[Group], name: &[u8]) -> Option<usize>
-    ensures { result ≡ position (λ group. bytes_eq name.now group.name.items) groups.now }
-{
-    groups
-        .iter()
-        .position(|group| name == group.name.as_slice())
-}
-
 /// What the lines of a script say, but for the nodes that are faulty at first.
 pub struct Parts {
     pub version: u32,
@@ -51,7 +35,7 @@ pub struct Parts {
     pub common: CommonStart,
     pub starts: Vec<Start>,
     pub eras: Vec<Era>,
-    pub groups: Vec<Group>,
+    pub groups: Groups,
     pub lies: Vec<Lie>,
     pub rounds: u64,
     pub first: u64,
@@ -98,7 +82,7 @@ impl Parts {
             common: CommonStart::Zero,
             starts: Vec::new(alloc),
             eras: Vec::new(alloc),
-            groups: Vec::new(alloc),
+            groups: Groups::new(alloc),
             lies: Vec::new(alloc),
             rounds: 0,
             first: 0,

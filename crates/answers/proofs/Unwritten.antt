@@ -14,9 +14,9 @@ use Rattle.edge_io.specs.Taking.{FailsAsDefined}
 use Rattle.plan_reader.specs.declared.refusals.PlanError.{PlanError}
 use Rattle.plan_reader.specs.declared.refusals.PlanError.TheVariants as plan
 use Rattle.plan_reader.specs.PlanRefusals as plans
-use Rattle.plan_reader.specs.declared.table_refusals.TableError.{TableError}
-use Rattle.plan_reader.specs.declared.table_refusals.TableError.TheVariants as table
-use Rattle.plan_reader.specs.TableRefusals as tables
+use Rattle.plan_certificate.specs.declared.table_refusals.TableError.{TableError}
+use Rattle.plan_certificate.specs.declared.table_refusals.TableError.TheVariants as table
+use Rattle.plan_certificate.specs.TableRefusals as tables
 use Rattle.outcomes.specs.declared.refusals.Refusal.{Refusal}
 use Rattle.outcomes.specs.Inputs.{in_plan, in_part, in_table, or_refusal}
 use Rattle.outcomes.specs.Answers.{text_by}

@@ -6,8 +6,8 @@ use Rattle.edge_io.specs.declared.taking.PartError.{PartError}
 use Rattle.edge_io.specs.declared.taking.PartError.TheVariants as part
 use Rattle.plan_reader.specs.declared.refusals.PlanError.{PlanError}
 use Rattle.plan_reader.specs.declared.refusals.PlanError.TheVariants as plan
-use Rattle.plan_reader.specs.declared.table_refusals.TableError.{TableError}
-use Rattle.plan_reader.specs.declared.table_refusals.TableError.TheVariants as table
+use Rattle.plan_certificate.specs.declared.table_refusals.TableError.{TableError}
+use Rattle.plan_certificate.specs.declared.table_refusals.TableError.TheVariants as table
 use Rattle.outcomes.specs.declared.refusals.Refusal.{Refusal}
 use Rattle.outcomes.specs.declared.refusals.Refusal.TheVariants as refusal
 use Rattle.answers.specs.declared.errors.Unanswered.{Unanswered}

@@ -3,7 +3,8 @@ ghost use Rattle.answers.specs.Readings.{part_error};
 
 use edge_io::{PartError, WriteFault};
 use outcomes::Refusal;
-use plan_reader::{PlanError, TableError};
+use plan_certificate::TableError;
+use plan_reader::PlanError;
 use sync_types::{NoMemory, Part, Rule};
 use thiserror::Error;
 

@@ -9,7 +9,7 @@ use counter_core::NoOverlay;
 use edge_io::{Piece, Sink, WriteFault, Writer};
 use plan_numbers::Plan;
 use round_runner::Runner;
-use run_explanations::{Explanation, explain};
+use run_explanations::{Explanation, first_explanation};
 use run_lines::{put_bound, put_locks};
 
 /// Writes an explanation, or that there is none.
@@ -45,7 +45,7 @@ fn put_why<K: Sink>(writer: &mut Writer<'_, K>, plan: &Plan, runner: &mut Runner
         runner.play_until_known();
         return writer.text(b"explain base\n");
     }
-    put_explanation(writer, explain(plan, runner));
+    put_explanation(writer, first_explanation(plan, runner));
 }
 
 /// Writes the lines of an explained run.

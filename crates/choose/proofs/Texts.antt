@@ -15,7 +15,7 @@ use Rattle.construction.specs.Plans.{Level, Plan}
 use Rattle.plan_numbers.specs.Numbers.{below_of}
 use Rattle.plan_numbers.specs.Premises.{LevelsAccepted, IsAccepted}
 use Rattle.plan_numbers.proofs.Accepted.{meets}
-use Rattle.plan_reader.specs.Tables.{version_line, base_line}
+use Rattle.plan_reader.specs.TextLines.{version_line, base_line}
 use Rattle.plan_reader.specs.PlanTexts.{level_text, level_texts, plan_text, in_version}
 use Rattle.plan_reader.proofs.ReadBack.{text_is_whole}
 use Rattle.choose.specs.FrontText.{base_part, level_part, levels_part, plan_part, in_lines}

@@ -1,9 +1,9 @@
-ghost use Rattle.std.specs.Prelude.{◌≡◌, ◌*◌, ◌<◌, ◌≤◌, length};
+ghost use Rattle.std.specs.Prelude.{◌≡◌, ◌*◌, ◌<◌, ◌≤◌, length, All};
 ghost use Rattle.counter_core.specs.Working.{IsWorkFor, IsAsRoomy};
 ghost use Rattle.layer_laws.specs.CounterSlots.{slot_length, agreed};
 ghost use Rattle.consensus_layer.specs.Agreeing.{agree_step};
 
-use counter_core::{HeardRegister, Work};
+use counter_core::{Heard, HeardRegister, Work};
 use phase_king::agree_step;
 use sync_types::Reg;
 
@@ -12,7 +12,7 @@ use sync_types::Reg;
 /// not counted.
 ///
 /// Node and king are below the number of nodes, and `work` is for so many.
-pub fn agree_at(values: &HeardRegister<'_>, node: u32, kind: u64, king: u32, work: &mut Work) -> Reg
+fn agree_under(values: &HeardRegister<'_>, node: u32, kind: u64, king: u32, work: &mut Work) -> Reg
     requires kind { kind ≤ 2 }
     requires node { node < length values.now.states }
     requires king { king < length values.now.states }
@@ -32,6 +32,36 @@ pub fn agree_at(values: &HeardRegister<'_>, node: u32, kind: u64, king: u32, wor
         values.nodes(),
         values.faults(),
     )
+}
+
+/// The register with index `register` of node `node` after the phase king's instruction of a kind,
+/// 0 to 2, under a king, without increment, by the states that the node hears of so many nodes, of
+/// which so many may be faulty. The register of `node` itself is that of its place in `heard`.
+///
+/// Node and king are below the number of nodes, each state has that register, and `work` is for so
+/// many nodes or more.
+pub fn agree_at(
+    heard: &Heard<'_>,
+    node: u32,
+    register: usize,
+    kind: u64,
+    king: u32,
+    nodes: u32,
+    faults: u32,
+    work: &mut Work,
+) -> Reg
+    requires kind { kind ≤ 2 }
+    requires node { node < nodes }
+    requires king { king < nodes }
+    requires faults { faults ≤ nodes }
+    requires heard { length heard.now ≡ nodes }
+    requires deep { All (λ s. register < length s.registers) heard.now }
+    requires work { IsWorkFor nodes work.old }
+    ensures register { result ≡ agreed nodes faults register node kind king heard.now }
+    ensures work { IsAsRoomy work.old work.new }
+{
+    let values = HeardRegister::of(heard, register, nodes, faults);
+    agree_under(&values, node, kind, king, work)
 }
 
 /// What a round gives a register of agreement: the new register, and what was decided if its slot
@@ -74,7 +104,7 @@ pub fn agree(
     let length = slot_length(values.faults());
     let turn = output % length;
     let king = (turn / 3) as u32;
-    let result = agree_at(values, node, turn % 3, king, work);
+    let result = agree_under(values, node, turn % 3, king, work);
     if turn + 1 == length {
         Agreed {
             register: Reg {

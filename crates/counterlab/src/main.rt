@@ -1,10 +1,7 @@
-//! The program: the workbench over standard input and standard output. If the answer does not say
-//! what failed, or the words are no command, one line on standard error does ([`put_remark`]).
+//! The program: the workbench over standard input and standard output. It prints nothing itself, and
+//! ends with the exit code of the status.
 #![tactic(auto)]
 
-mod remarks;
-
-use crate::remarks::put_remark;
 use edge_io::{StdSink, StdSource};
 use program_words::{arguments, exit_code, words};
 use std::io;
@@ -23,9 +20,5 @@ fn run(rt: &HostRuntime) -> Status {
 }
 
 fn main(rt: HostRuntime) -> ExitCode {
-    let status = run(&rt);
-    let stderr = rt.stderr();
-    // If standard error is closed, the code alone says it.
-    let _ = put_remark(&mut StdSink::new(io::writer(&stderr)), status);
-    exit_code(status)
+    exit_code(run(&rt))
 }

@@ -101,7 +101,7 @@ fn majority(half: &Group, heard: &Heard<'_>) -> u64
 }
 
 /// What a half shows: what more than half of its nodes do, or 0, modulo what it counts by.
-fn shown(half: &Group, heard: &Heard<'_>) -> u64
+pub fn shown(half: &Group, heard: &Heard<'_>) -> u64
     requires within { half.now.first + half.now.nodes ≤ length heard.now }
     requires deep { All (HasGroup half.now) heard.now }
     ensures { result ≡ shown half.now.modulus (outputs_in half.now heard.now) }

@@ -37,6 +37,7 @@ pub use counters::{advance, can_hear, output, zero};
 pub use counts::{Counts, count_group};
 pub use groups::Group;
 pub use halving_machines::HalvingMachine;
+pub use hearing::shown;
 pub use level_states::LevelState;
 pub use making::all_nodes_fields;
 pub use output_places::{output_bits, output_start};

@@ -28,7 +28,7 @@ pub fn lay_fronts(count: usize, states: &Packed, fronts: &mut [NodeState])
 {
     states.facts();
     for v in 0..states.nodes() {
-        copy_front(count, states.state(v), &mut fronts[v as usize]);
+        states.front(v, &mut fronts[v as usize]);
     }
 }
 

@@ -1,5 +1,5 @@
 -- With another key a script is a script for its machine, and what was made for it serves.
-use Rattle.std.proofs.Common.{◌≡◌, ℕ, List, length, Option, refl, sym, ap, ◌∙◌, subst, arith}
+use Rattle.std.proofs.Common.{◌≡◌, ℕ, List, Vec, Global, length, Option, refl, sym, ap, ◌∙◌, subst, arith}
 use Rattle.sync_types.specs.States.{State}
 use Rattle.state_codec.specs.Packs.{Pack}
 use Rattle.machines.specs.Machines.{Machine}
@@ -9,6 +9,7 @@ use Rattle.machine_runner.specs.Played.{starts}
 use Rattle.machine_runner.proofs.Firsts.{begun_era}
 use Rattle.machine_runner.specs.declared.stepping.RoundBuffers.{RoundBuffers}
 use Rattle.machine_runner.specs.Kept.{IsValidRunner, locks_at}
+use Rattle.machine_runner.specs.Hearing.{HasRoom}
 use Rattle.machine_runner.specs.Rooms.{IsReady}
 use Rattle.machine_runner.specs.Runners.{Running, begun}
 use Rattle.machine_runner.proofs.Keeping.{locks_long}
@@ -49,32 +50,36 @@ module _ (script : Script) (key : List ℕ) where
     whole = whole_still read.whole;
   }
 
-  pub ready_still : (room : RoundBuffers) (noise : List ℕ) (out : State) → IsReady script room
-      → noise ≡ key → length out.registers ≡ script.shape.depth
-      → IsReady (rekeyed script key) (record room { noise = noise; out = out })
-  ready_still room noise out ready is deep = record {
+  pub ready_still : (room : RoundBuffers) (noise : List ℕ) (heard : Vec State Global) (out : State)
+      → IsReady script room → noise ≡ key → HasRoom script heard.items
+      → length out.registers ≡ script.shape.depth
+      → IsReady (rekeyed script key) (record room { noise = noise; heard = heard; out = out })
+  ready_still room noise heard out ready is has_room deep = record {
     noise = is;
-    heard = record { size = ready.heard.size; deep = ready.heard.deep };
+    heard = record { size = has_room.size; deep = has_room.deep };
     work = ready.work;
     out = deep;
   }
 
   -- what a runner keeps, when it begins anew
-  kept_at_first : (machine : Machine) (room : RoundBuffers) (noise : List ℕ) (out : State)
+  kept_at_first : (machine : Machine) (room : RoundBuffers) (noise : List ℕ)
+      (heard : Vec State Global) (out : State)
       (states now : Pack) (locks begun : List (Option ℕ)) (at era : ℕ)
       → IsValidRunner machine script room states locks at era → noise ≡ key
+      → HasRoom script heard.items → heard.items ≡ now.current
       → length out.registers ≡ script.shape.depth → now.shape ≡ states.shape
       → length now.current ≡ script.nodes → now.current ≡ starts (rekeyed script key)
       → begun ≡ locks_at machine (rekeyed script key) 0
       → IsValidRunner machine (rekeyed script key)
-      (record room { noise = noise; out = out }) now begun 0 0
-  kept_at_first machine room noise out states now locks begun at era kept is deep shape size start
-      known = record {
+      (record room { noise = noise; heard = heard; out = out }) now begun 0 0
+  kept_at_first machine room noise heard out states now locks begun at era kept is has_room laid
+      deep shape size start known = record {
         sound = kept.sound;
         read = read_still machine kept.read;
-        ready = ready_still room noise out kept.ready is deep;
+        ready = ready_still room noise heard out kept.ready is has_room deep;
         shape = shape ∙ kept.shape;
         size = size;
+        laid = laid;
         played = start;
         within = omega arith;
         here = sym (begun_era (rekeyed script key) kept.read.whole.formed.rising 0 0
@@ -84,22 +89,24 @@ module _ (script : Script) (key : List ℕ) where
         known = known;
       }
 
-  pub kept_anew : (machine : Machine) (room : RoundBuffers) (noise : List ℕ) (out : State)
+  pub kept_anew : (machine : Machine) (room : RoundBuffers) (noise : List ℕ)
+      (heard : Vec State Global) (out : State)
       (states now : Pack) (locks begun : List (Option ℕ)) (at era : ℕ)
       (other : Script) → other ≡ rekeyed script key
       → IsValidRunner machine script room states locks at era → noise ≡ key
+      → HasRoom script heard.items → heard.items ≡ now.current
       → length out.registers ≡ script.shape.depth → now.shape ≡ states.shape
       → length now.current ≡ script.nodes → now.current ≡ starts other
       → begun ≡ locks_at machine other 0
-      → IsValidRunner machine other (record room { noise = noise; out = out }) now begun 0 0
-  kept_anew machine room noise out states now locks begun at era other same kept is deep shape size
-      start known =
+      → IsValidRunner machine other (record room { noise = noise; heard = heard; out = out }) now begun 0 0
+  kept_anew machine room noise heard out states now locks begun at era other same kept is has_room
+      laid deep shape size start known =
       subst
       (λ (s : Script). IsValidRunner machine s
-      (record room { noise = noise; out = out }) now begun 0 0)
+      (record room { noise = noise; heard = heard; out = out }) now begun 0 0)
       (sym same)
-      (kept_at_first machine room noise out states now locks begun at era kept is deep shape size
-      (start ∙ ap starts same) (known ∙ ap (λ (s : Script). locks_at machine s 0) same))
+      (kept_at_first machine room noise heard out states now locks begun at era kept is has_room
+      laid deep shape size (start ∙ ap starts same) (known ∙ ap (λ (s : Script). locks_at machine s 0) same))
 
 -- what a runner is, when it begins anew
 pub begun_anew : {M : Type 0} (machine : M) (script : Script) (at : ℕ) (r : Running M) → (let s :

@@ -1,4 +1,4 @@
--- What a runner keeps: its configuration is the played one, and of each era it knows the first
+-- What a runner keeps: its configuration is the played one, its states are laid, and of each era it knows the first
 -- locked configuration so far.
 use Rattle.std.specs.Prelude.{◌≡◌, ℕ, ◌+◌, ◌≤◌, List, length, Option}
 use Rattle.state_codec.specs.Packs.{Pack}
@@ -24,6 +24,7 @@ pub record IsValidRunner (machine : Machine) (script : Script) (room : RoundBuff
   pub ready : IsReady script room
   pub shape : states.shape ≡ script.shape
   pub size : length states.current ≡ script.nodes
+  pub laid : room.heard.items ≡ states.current
   pub played : states.current ≡ played_at machine script at
   pub within : at ≤ script.rounds
   pub here : era ≡ era_of script at

@@ -7,24 +7,13 @@ ghost use Rattle.machine_runner.specs.Locks.{is_locked, is_locked_at, is_locked_
 
 use machines::Machine;
 use state_codec::Packed;
-use sync_types::{FaultSet, NodeState, Reg};
+use sync_types::{FaultSet, Reg};
 
-/// The register that stands where a state has none.
+/// The register that stands where the states have none.
 const ZERO: Reg = Reg {
     a: Some(0),
     d: false,
 };
-
-/// A register of a state, which is zero if the state has none at that place.
-fn register_at(register: usize, state: &NodeState) -> Reg
-    ensures { result ≡ register_at register state.now }
-{
-    if register < state.depth() {
-        state.reg(register)
-    } else {
-        ZERO
-    }
-}
 
 /// Whether a register is marked and has this value.
 fn is_locked_at(value: u64, register: Reg) -> bool
@@ -49,7 +38,12 @@ impl Registers<'_> {
         ensures { result ≡ register_at self.now.register
             (state_of self.now.config.now.current v) }
     {
-        register_at(self.register, self.config.state(v))
+        self.config.facts();
+        if self.register < self.config.shape().depth() {
+            self.config.reg(v, self.register)
+        } else {
+            ZERO
+        }
     }
 
     /// The value of the first one, or 0 if that is infinite or no node is correct.

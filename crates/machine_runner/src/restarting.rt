@@ -1,6 +1,7 @@
 ghost use Rattle.std.specs.Prelude.{◌≡◌};
 
 use crate::era_locks::begin_locks;
+use crate::hearing::lay;
 use crate::locks::is_locked;
 use crate::runners::Runner;
 use crate::stepping::start_all;
@@ -23,6 +24,8 @@ impl<'a, M: Machine> Runner<'a, M> {
             &mut self.room.out,
             &mut self.states,
         );
+        self.states.facts();
+        lay(&self.states, &mut self.room.heard);
         self.at = 0;
         self.era = 0;
         let locked = is_locked(self.machine, self.script.faulty(), &self.states);

@@ -110,6 +110,8 @@ impl<'a, M: Machine> Runner<'a, M> {
         let mut room = room_for(alloc, &script, &shape)?;
         let mut states = Packed::new(alloc, shape, script.faulty().nodes())?;
         start_all(&script, &mut room.noise, &mut room.out, &mut states);
+        states.facts();
+        lay(&states, &mut room.heard);
         let locked = is_locked(machine, script.faulty(), &states);
         let locks = first_locks(alloc, &script, locked)?;
         Ok(Runner {
@@ -139,6 +141,8 @@ impl<'a, M: Machine> Runner<'a, M> {
         };
         round.step_all(self.machine, &mut self.room, &mut self.states);
         self.states.flip();
+        self.states.facts();
+        lay(&self.states, &mut self.room.heard);
         self.at += 1;
         self.era = era;
         let locked = is_locked(self.machine, self.script.era_faulty(era), &self.states);
@@ -197,7 +201,7 @@ impl<'a, M: Machine> Runner<'a, M> {
         requires { v < (M.machine self.now.machine).nodes }
         ensures { result.now ≡ state_of (states_of M.machine self.now) v }
     {
-        self.states.state(v)
+        &self.room.heard[v as usize]
     }
 
     /// Lays the states of all nodes into their places.
@@ -242,7 +246,7 @@ impl<'a, M: Machine> Runner<'a, M> {
     {
         self.machine.facts();
         self.states.facts();
-        self.machine.output(v, self.states.state(v))
+        self.machine.output(v, &self.room.heard[v as usize])
     }
 
     /// Who is faulty in the configuration, and in the round that begins with it.

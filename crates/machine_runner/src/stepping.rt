@@ -9,7 +9,7 @@ ghost use Rattle.machine_runner.specs.Played.{starts, state_after, after_round};
 ghost use Rattle.machine_runner.specs.Hearing.{AreHonest};
 ghost use Rattle.machine_runner.specs.Rooms.{IsReady, IsConfiguration};
 
-use crate::hearing::{Receiver, lay};
+use crate::hearing::Receiver;
 use adversary_script::{Noise, Script};
 use counter_core::{Heard, Work};
 use machines::Machine;
@@ -116,12 +116,13 @@ impl Round<'_> {
         put_hit(self.script, self.t + 1, self.begins, v, out);
     }
 
-    /// The steps of all nodes, from the current states to the next ones. If an era begins after the
+    /// The steps of all nodes, from the current states, which are laid, to the next ones. If an era begins after the
     /// round, nodes are put into the states that it gives them.
     pub fn step_all<M: Machine>(&self, machine: &M, room: &mut RoundBuffers, states: &mut Packed)
         requires read { IsReadFor (M.machine machine.now) self.now.script.now }
         requires config { IsConfiguration self.now.script.now states.old }
         requires room { IsReady self.now.script.now room.old }
+        requires laid { room.old.heard.items ≡ states.old.current }
         ensures states { states.new ≡ record states.old {
           next = after_round (M.machine machine.now) self.now.script.now self.now.t
               states.old.current;
@@ -129,7 +130,6 @@ impl Round<'_> {
         ensures room { IsReady self.now.script.now room.new }
     {
         states.facts();
-        lay(states, &mut room.heard);
         for v in 0..states.nodes() {
             let turn = NodeStep {
                 round: &*self,

@@ -4,7 +4,8 @@ use std::marker::Model;
 use std::sync::ledger::{Blank, Book, Ledger, Share};
 
 /// How many steps were taken, in a ledger of one's choice. It takes no bytes, and its calls do
-/// nothing when they run. Only a value that is placed in a tally takes a step.
+/// nothing when they run. A value takes a step where it is counted: if it is placed in a tally, or
+/// if it is compared where it stands, which then stands for placing it.
 #[derive(Drop)]
 pub struct Steps<G: Ledger> {
     book: Book<G>,
@@ -36,5 +37,12 @@ impl<G: Ledger> Steps<G> {
         ensures { self.new ≡ self.old + 1 }
     {
         self.book.add(&mut self.share, 1);
+    }
+
+    /// A step for each of so many values, which are compared where they stand and not placed.
+    pub fn compared(&mut self, values: usize)
+        ensures { self.new ≡ self.old + values }
+    {
+        self.book.add(&mut self.share, values as u64);
     }
 }

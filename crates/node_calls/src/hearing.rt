@@ -24,7 +24,7 @@ pub(crate) fn node_of<M: Machine>(
     machine.facts();
     let mut own = NodeState::zero(alloc, machine.depth())?;
     machine.read_state(id, state, &mut own);
-    NodeEngine::new(alloc, machine, id, own)
+    NodeEngine::of_machine(alloc, machine, id, own)
 }
 
 /// Hears packets and steps after each: the answer is how many these were.

@@ -41,9 +41,9 @@ impl<M: Machine> NodeEngine<M> {
     ghost use Rattle.node_stepper.specs.Nodes.{begun, hearing, stepped, forgetting};
     ghost use Rattle.node_stepper.specs.Nodes.{AllHeard, own};
 
-    /// Node `id` in a state of its own, which has heard no other node: of each it has the zero
-    /// state. It takes all the memory that it ever needs.
-    pub fn new(
+    /// Node `id` of a machine in a state of its own, which has heard no other node: of each it has
+    /// the zero state. It takes all the memory that it ever needs.
+    pub fn of_machine(
         alloc: Global,
         machine: M,
         id: u32,

@@ -4,7 +4,7 @@ use Rattle.std.specs.Prelude.{codes}
 use Rattle.construction.specs.Plans.{Plan, plan_nodes, plan_depth}
 use Rattle.plan_numbers.specs.Premises.{IsAccepted}
 use Rattle.plan_numbers.proofs.Accepted.{accepted_depth, accepted_sized}
-use Rattle.plan_reader.specs.Tables.{version_line, base_line}
+use Rattle.plan_reader.specs.TextLines.{version_line, base_line}
 use Rattle.plan_reader.specs.PlanTexts.{level_texts}
 use Rattle.plan_reader.proofs.ReadBack.{text_is_read}
 use Rattle.state_codec.specs.Shapes.{moduli_of}

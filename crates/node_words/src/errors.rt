@@ -4,44 +4,33 @@ ghost use Rattle.node_words.specs.NodeAnswers.{ended_by};
 use crate::HeaderRefusal;
 use node_stepper::NodeFault;
 use std::alloc::AllocError;
-use std::error::Error;
-use std::fmt::{self, Debug, Display, Formatter, Write};
+use std::fmt::Debug;
 use sync_types::NoMemory;
+use thiserror::Error;
 
 /// Why a node did not answer packets to the end of its input.
-#[derive(Clone, Copy, Debug, PartialEq, Eq)]
+#[derive(Clone, Copy, Debug, PartialEq, Eq, Error)]
+#[error_bound(P: Debug)]
 pub enum NodeError<P> {
     /// A line of the header was refused, and the line that says so was written.
+    #[error("the header is refused: {0:?}")]
     Refused(HeaderRefusal<P>),
     /// A read failed, which the source has counted.
+    #[error("a read failed")]
     ReadFault,
     /// A write failed, which the sink has counted.
+    #[error("a write failed")]
     WriteFault,
     /// The header is longer than 2^20 bytes, or there was a byte of packet 1,000,001.
+    #[error("the header or the input is too long")]
     TooLong,
     /// The input ended inside a packet: the first node whose cell is not whole.
+    #[error("packet {packet} ends in the cell of node {sender}")]
     Cut { packet: u64, sender: u32 },
     /// Memory was refused.
+    #[error("out of memory")]
     NoMemory,
 }
-
-// Written out, since only what is written of an error asks that premises can be.
-impl<P: Debug> Display for NodeError<P> {
-    fn fmt<W: Write>(&self, f: &mut Formatter<W>) -> fmt::Result {
-        match self {
-            NodeError::Refused(refusal) => write!(f, "the header is refused: {refusal:?}"),
-            NodeError::ReadFault => f.write_str("a read failed"),
-            NodeError::WriteFault => f.write_str("a write failed"),
-            NodeError::TooLong => f.write_str("the header or the input is too long"),
-            NodeError::Cut { packet, sender } => {
-                write!(f, "packet {packet} ends in the cell of node {sender}")
-            }
-            NodeError::NoMemory => f.write_str("out of memory"),
-        }
-    }
-}
-
-impl<P: Debug + Drop> Error for NodeError<P> {}
 
 impl<P> From<AllocError> for NodeError<P> {
     ghost use Rattle.node_words.specs.declared.errors.NodeError.TheVariants as error;

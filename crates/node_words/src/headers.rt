@@ -14,10 +14,10 @@ use plan_numbers::Plan;
 use plan_reader::PlanLines;
 use state_codec::StateShape;
 use std::alloc::Global;
-use std::error::Error;
-use std::fmt::{self, Debug, Display, Formatter, Write};
+use std::fmt::Debug;
 use sync_types::{NoMemory, Premise, Rule};
 use texts::LONGEST_INPUT;
+use thiserror::Error;
 
 /// How many bytes a header may have.
 const LONGEST_HEADER: u64 = LONGEST_INPUT as u64;
@@ -32,31 +32,22 @@ pub enum HeaderRefusal<P> {
 }
 
 /// Why no header was read.
-#[derive(Clone, Copy, Debug, PartialEq, Eq)]
+#[derive(Clone, Copy, Debug, PartialEq, Eq, Error)]
+#[error_bound(P: Debug)]
 pub enum HeaderError<P> {
     /// A read failed, which the source has counted.
+    #[error("a read failed")]
     ReadFault,
     /// The header is longer than 2^20 bytes.
+    #[error("the header is too long")]
     TooLong,
     /// A line was refused.
+    #[error("the header is refused: {0:?}")]
     Refused(HeaderRefusal<P>),
     /// Memory ran out.
+    #[error("out of memory")]
     NoMemory,
 }
-
-// Written out, since only what is written of an error asks that premises can be.
-impl<P: Debug> Display for HeaderError<P> {
-    fn fmt<W: Write>(&self, f: &mut Formatter<W>) -> fmt::Result {
-        match self {
-            HeaderError::ReadFault => f.write_str("a read failed"),
-            HeaderError::TooLong => f.write_str("the header is too long"),
-            HeaderError::Refused(refusal) => write!(f, "the header is refused: {refusal:?}"),
-            HeaderError::NoMemory => f.write_str("out of memory"),
-        }
-    }
-}
-
-impl<P: Debug + Drop> Error for HeaderError<P> {}
 
 /// The error of a plan part that was not read.
 fn plan_failed<P>(error: FedError<P>) -> HeaderError<P>

@@ -28,7 +28,7 @@ fn engine_of<C: Construction>(
         ended: _,
     } = read;
     let counter = C::counter(alloc, plan, shape)?;
-    NodeEngine::new(alloc, counter, header.id, header.state)
+    NodeEngine::of_machine(alloc, counter, header.id, header.state)
 }
 
 /// Reads a header, and then packets, and writes the node's cell at the start and after each whole

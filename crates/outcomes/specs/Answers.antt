@@ -1,6 +1,6 @@
 -- What each batch command answers to an input: the text of what it is read as, or the refusal.
 use Rattle.std.specs.Prelude.{ℕ, List, Result, Ok, Err, codes}
-use Rattle.plan_reader.specs.Tables.{table_text}
+use Rattle.plan_certificate.specs.Tables.{table_text}
 use Rattle.plan_reader.specs.PlanTexts.{plan_text}
 use Rattle.plan_finder.specs.declared.wants.Want.{Want}
 use Rattle.plan_finder.specs.Least.{found_text}

@@ -9,7 +9,7 @@ use Rattle.sync_types.specs.declared.answers.Part.TheVariants as part
 use Rattle.sync_types.specs.declared.answers.Cause.{Cause}
 use Rattle.construction.specs.Plans.{Plan}
 use Rattle.plan_reader.specs.PlanPart.{plan_of, whole_plan_of}
-use Rattle.plan_reader.specs.TableLines.{table_of}
+use Rattle.plan_certificate.specs.TableLines.{table_of}
 use Rattle.plan_finder.specs.declared.wants.Want.{Want}
 use Rattle.plan_finder.specs.FindPart.{want_of}
 use Rattle.state_codec.specs.Shapes.{shape_of}

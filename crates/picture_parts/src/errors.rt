@@ -67,9 +67,13 @@ impl<T: Drop> From<AllocFailed<T>> for ChartError {
 }
 
 /// Why a line is not taken.
-#[derive(Clone, Copy)]
+#[derive(Clone, Copy, Debug, Error)]
 pub enum LineError {
+    /// It is not what should stand there.
+    #[error("not the line that should stand there")]
     Unwanted,
+    /// Memory was refused.
+    #[error("out of memory")]
     NoMemory,
 }
 

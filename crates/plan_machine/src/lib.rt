@@ -6,5 +6,7 @@
 pub mod laws;
 pub mod node_laws;
 mod plan_machines;
+mod plan_nodes;
 
 pub use plan_machines::PlanMachine;
+pub use plan_nodes::{NodeEngine, PlanNode};

@@ -49,7 +49,16 @@ impl PlanMachine {
     {
         plan.facts();
         let tower = build(alloc, plan)?;
-        Ok(PlanMachine { tower, shape })
+        Ok(PlanMachine::of(tower, shape))
+    }
+
+    /// The machine of a plan whose counter and shape were made. It takes no memory.
+    pub fn of(tower: Tower, shape: StateShape) -> PlanMachine
+        requires { shape ≡ shape_of tower }
+        ensures { result ≡ tower }
+    {
+        tower.tell();
+        PlanMachine { tower, shape }
     }
 }
 

@@ -22,7 +22,7 @@ use Rattle.plan_reader.specs.declared.stages.PlanStage.{PlanStage}
 use Rattle.plan_reader.specs.declared.stages.PlanStage.TheVariants.{Unread, Begun, Built}
 use Rattle.plan_reader.specs.PlanPart.{whole_plan_of, alone, plan_step, after_level}
 use Rattle.plan_reader.specs.PlanPart.{level_quadruple, level_by, base_by, goes_with}
-use Rattle.plan_reader.specs.Tables.{version_line, base_line}
+use Rattle.plan_reader.specs.TextLines.{version_line, base_line}
 use Rattle.plan_reader.specs.PlanTexts.{level_text, level_texts, plan_text, PlanTextIsRead}
 use Rattle.plan_reader.specs.PlanTexts.{PlanTextIsWhole}
 use Rattle.plan_reader.proofs.StatedLines.{small_short, IsSmall, level_small, after_plan}

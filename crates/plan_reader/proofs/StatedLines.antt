@@ -15,7 +15,7 @@ use Rattle.plan_numbers.specs.Numbers.{below_of}
 use Rattle.plan_numbers.specs.Premises.{first_premise}
 use Rattle.plan_numbers.proofs.Accepted.{meets}
 use Rattle.plan_reader.specs.PlanPart.{level_quadruple}
-use Rattle.plan_reader.specs.Tables.{version_line, base_line}
+use Rattle.plan_reader.specs.TextLines.{version_line, base_line}
 use Rattle.plan_reader.specs.PlanTexts.{level_text}
 
 -- a number of a plan may be printed, in 15 digits at most, and is read

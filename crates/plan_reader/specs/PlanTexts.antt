@@ -5,7 +5,7 @@ use Rattle.texts.specs.Lines.{lines_of}
 use Rattle.construction.specs.Plans.{Level, Plan, plan_depth}
 use Rattle.plan_numbers.specs.Premises.{IsAccepted}
 use Rattle.plan_reader.specs.PlanPart.{plan_of, whole_plan_of}
-use Rattle.plan_reader.specs.Tables.{version_line, base_line, spares_end}
+use Rattle.plan_reader.specs.TextLines.{version_line, base_line, spares_end}
 
 -- the numbers of a level that stand in each version
 abbrev pub level_words : Level → List ℕ

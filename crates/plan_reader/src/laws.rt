@@ -1,7 +1,6 @@
 //! The laws of the texts of plans. The functions are empty: their clauses are the laws.
 
 ghost use Rattle.plan_reader.specs.PlanTexts.{PlanTextIsRead, PlanTextIsWhole};
-ghost use Rattle.plan_reader.specs.TableLaws.{TablesAreRead, OnlyTablesAreRead};
 
 /// The text of an accepted plan, in the plan's own version or a later one, is read as that plan: at
 /// the beginning of any text, and alone. So a plan of version 1 and its text of version 2 state the
@@ -9,11 +8,4 @@ ghost use Rattle.plan_reader.specs.TableLaws.{TablesAreRead, OnlyTablesAreRead};
 pub fn plan_texts_read_back()
     ensures part { PlanTextIsRead }
     ensures whole { PlanTextIsWhole }
-{}
-
-/// Reading a table text is the inverse of writing it: the table text of an accepted plan is read as
-/// that plan, and a text that is read as a plan is that plan's table text, the plan being accepted.
-pub fn tables_read_back()
-    ensures read { TablesAreRead }
-    ensures only { OnlyTablesAreRead }
 {}

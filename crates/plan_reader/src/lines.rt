@@ -1,5 +1,5 @@
 ghost use Rattle.edge_io.specs.Writing.{Writes};
-ghost use Rattle.plan_reader.specs.Tables.{version_line, base_line, spares_end};
+ghost use Rattle.plan_reader.specs.TextLines.{version_line, base_line, spares_end};
 
 use edge_io::{Piece, Sink, Writer};
 use plan_numbers::Plan;

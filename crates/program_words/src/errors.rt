@@ -7,8 +7,10 @@ ghost use Rattle.program_words.specs.Errors.{error_code, error_line};
 
 use edge_io::{InputFault, Sink, WriteFault, put_all};
 use std::alloc::AllocError;
+use std::fmt::Debug;
 use std::process::ExitCode;
 use sync_types::{NoMemory, Status};
+use thiserror::Error;
 
 /// The line of an input that is longer.
 pub const TOO_LONG: &[u8] = b"the input has more than 1048576 bytes\n";
@@ -46,19 +48,26 @@ pub trait Reason: Drop {
 }
 
 /// Why a program did not do what it was asked for, or not all of it.
-#[derive(Clone, Copy, Debug, PartialEq, Eq)]
+#[derive(Clone, Copy, Debug, PartialEq, Eq, Error)]
+#[error_bound(R: Debug)]
 pub enum ProgramError<R> {
     /// The words ask for nothing.
+    #[error("the words ask for nothing")]
     Usage,
     /// What the program was given is refused.
+    #[error("refused: {0:?}")]
     Refused(R),
     /// A read failed.
+    #[error("a read failed")]
     ReadFault,
     /// A write failed.
+    #[error("a write failed")]
     WriteFault,
     /// The input is longer than its limit.
+    #[error("the input is too long")]
     TooLong,
     /// Memory was refused.
+    #[error("out of memory")]
     NoMemory,
 }
 

@@ -11,7 +11,7 @@ use Rattle.construction.specs.Runs.{IsState}
 use Rattle.machines.specs.Machines as machines
 use Rattle.plan_numbers.specs.Premises.{IsAccepted}
 use Rattle.plan_numbers.proofs.Accepted.{accepted_depth}
-use Rattle.plan_reader.specs.Tables.{version_line, base_line, spares_end}
+use Rattle.plan_reader.specs.TextLines.{version_line, base_line, spares_end}
 use Rattle.plan_reader.specs.PlanTexts.{level_words, level_text, level_texts, plan_text}
 use Rattle.plan_laws.specs.VersionLaws.{in_version}
 use Rattle.state_codec.specs.Shapes.{shape_of}

@@ -9,9 +9,9 @@ use Rattle.plan_numbers.specs.Premises.{IsAccepted}
 use Rattle.plan_laws.specs.VersionLaws.{VersionsAgree}
 use Rattle.plan_reader.specs.PlanPart.{whole_plan_of}
 use Rattle.plan_reader.proofs.AcceptedPlans.{whole_plan_accepted}
-use Rattle.plan_reader.specs.Tables.{table_text}
-use Rattle.plan_reader.specs.TableLines.{table_of}
-use Rattle.plan_reader.specs.TableLaws.{TablesAreRead, OnlyTablesAreRead}
+use Rattle.plan_certificate.specs.Tables.{table_text}
+use Rattle.plan_certificate.specs.TableLines.{table_of}
+use Rattle.plan_certificate.specs.TableLaws.{TablesAreRead, OnlyTablesAreRead}
 use Rattle.plan_reader.specs.PlanTexts.{plan_text, PlanTextIsRead, PlanTextIsWhole}
 use Rattle.plan_finder.specs.WantTexts.{WantTextIsRead}
 use Rattle.slot_table.specs.SlotTexts.{SlotTextIsRead}

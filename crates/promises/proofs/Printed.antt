@@ -9,7 +9,7 @@ use Rattle.texts.specs.Parts.{At}
 use Rattle.texts.specs.Growth.{SinkState}
 use Rattle.texts.specs.Limits.{longest_input}
 use Rattle.construction.specs.Plans.{Plan}
-use Rattle.plan_reader.specs.Tables.{table_text}
+use Rattle.plan_certificate.specs.Tables.{table_text}
 use Rattle.plan_reader.specs.PlanTexts.{plan_text}
 use Rattle.plan_finder.specs.declared.wants.Want.{Want}
 use Rattle.plan_numbers.specs.Premises.{IsAccepted}

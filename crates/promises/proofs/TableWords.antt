@@ -11,8 +11,9 @@ use Rattle.construction.specs.Plans.{Level, Plan}
 use Rattle.plan_numbers.specs.declared.numbers.LevelNums.{LevelNums}
 use Rattle.plan_numbers.specs.Numbers.{below_of, numbers_over, numbers_of}
 use Rattle.plan_numbers.proofs.LevelLaws.{length-numbers_of}
-use Rattle.plan_reader.specs.Tables.{version_line, base_line, level_front, level_line}
-use Rattle.plan_reader.specs.Tables.{plan_line, table_text}
+use Rattle.plan_reader.specs.TextLines.{version_line, base_line}
+use Rattle.plan_certificate.specs.Tables.{level_front, level_line}
+use Rattle.plan_certificate.specs.Tables.{plan_line, table_text}
 use Rattle.promises.specs.WrittenLines.{text_of_words}
 use Rattle.promises.specs.TableWords.{plan_up_to, top_words, levels_said, whole_words, table_words}
 

@@ -4,7 +4,7 @@ use Rattle.std.specs.Prelude.{◌≡◌, ℕ, ◌≤◌, List, Result, Ok, IfOk}
 use Rattle.construction.specs.Plans.{Plan}
 use Rattle.plan_numbers.specs.Premises.{IsAccepted}
 use Rattle.plan_laws.specs.VersionLaws.{in_version, AreSame}
-use Rattle.plan_reader.specs.Tables.{table_text}
+use Rattle.plan_certificate.specs.Tables.{table_text}
 use Rattle.plan_reader.specs.PlanTexts.{plan_text, PlanTextIsRead}
 use Rattle.plan_finder.specs.declared.wants.Want.{Want}
 use Rattle.plan_finder.specs.FindPart.{IsFit}

@@ -10,7 +10,7 @@ use Rattle.adversary_script.specs.Scripts.{Script}
 use Rattle.plan_finder.specs.declared.wants.Want.{Want}
 use Rattle.run_checker.specs.Certificates.{certificate_text}
 use Rattle.run_checker.specs.Recorded.{certificate_of}
-use Rattle.plan_reader.specs.Tables.{table_text}
+use Rattle.plan_certificate.specs.Tables.{table_text}
 use Rattle.plan_reader.specs.PlanTexts.{plan_text}
 use Rattle.run_lines.specs.HoldTexts.{hold_text}
 use Rattle.run_lines.specs.DecisionTexts.{decision_text}

@@ -8,7 +8,7 @@ use Rattle.sync_types.specs.declared.answers.Rule.TheVariants as rule
 use Rattle.sync_types.specs.declared.answers.Cause.TheVariants as cause
 use Rattle.sync_types.specs.declared.answers.Part.TheVariants as part
 use Rattle.plan_numbers.specs.Numbers.{line}
-use Rattle.plan_reader.specs.Tables.{table_text}
+use Rattle.plan_certificate.specs.Tables.{table_text}
 use Rattle.plan_reader.specs.PlanTexts.{plan_text}
 use Rattle.plan_finder.specs.FindText.{find_text}
 use Rattle.plan_finder.specs.WantTexts.{want_text}

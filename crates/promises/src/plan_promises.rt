@@ -12,7 +12,8 @@ use firing::laws::request_texts_read_back;
 use node_words::laws::header_texts_read_back;
 use plan_finder::laws::want_texts_read_back;
 use plan_laws::laws::versions_agree;
-use plan_reader::{plan_texts_read_back, tables_read_back};
+use plan_certificate::tables_read_back;
+use plan_reader::plan_texts_read_back;
 use replicated_log::laws::log_texts_read_back;
 use slot_table::laws::slot_texts_read_back;
 

@@ -12,6 +12,7 @@ mod replica;
 
 pub use commands::Commands;
 pub use entries::{Entries, Entry};
+pub use firing::{FireError, FireRefusal, Firing, read_fire};
 pub use log_lines::{LogLines, entry_length};
 pub use log_parts::LogPart;
 pub use reading::{LogError, LogRefusal, read_log, read_log_over};

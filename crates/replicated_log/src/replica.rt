@@ -180,8 +180,16 @@ impl Replica {
             }
         } else {
             let turn = turn - 1;
-            let values = HeardRegister::of(heard, self.depth, self.nodes, self.faults);
-            agree_at(&values, node, turn % 3, (turn / 3) as u32, work)
+            agree_at(
+                heard,
+                node,
+                self.depth,
+                turn % 3,
+                (turn / 3) as u32,
+                self.nodes,
+                self.faults,
+                work,
+            )
         }
     }
 }

@@ -170,11 +170,9 @@ impl<O: Overlay> Runner<O> {
     }
 
     /// Makes the next configuration, as [`round`](Runner::round) does, and counts its steps: each
-    /// is the placing of one value in a tally, be it a pointer, part or register value of a correct
-    /// node or a register value that a faulty one tells. There are at most three a level for each
-    /// node, as sender and as receiver of each faulty one. Pointers and parts that faulty nodes
-    /// tell are compared and not placed, so they take no step, and what the layer takes is not
-    /// counted.
+    /// is the counting of one pointer, part or register value of a heard state, which is placed in
+    /// a tally or compared where it stands. There are at most three a level for each node, as
+    /// sender and as receiver of each faulty one. What the layer takes is not counted.
     pub fn round_counted<G: Ledger>(&mut self, steps: &mut Steps<G>)
         requires { self.old.at < self.old.script.rounds }
         ensures advances { Advances O.layer O.kept self.old self.new }
@@ -289,7 +287,7 @@ impl<O: Overlay> Runner<O> {
         ensures same { self.new ≡ self.old }
     {
         self.states.facts();
-        self.states.shape().write_hex(v, self.states.state(v), out);
+        let _fits = hex::encode_to_slice(self.states.bytes(v), out);
     }
 
     /// Writes what node `v` hears in round `at` of node `u`, which is faulty in it, as digits of

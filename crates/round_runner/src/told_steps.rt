@@ -99,5 +99,12 @@ pub fn step_told<L: Lies, G: Ledger>(
     let stretch = hull(tower.relevant_liars(hearer.v, &room.shared), layers);
     fill_lies(hearer, stretch, lies, noise, &mut room.lies);
     let told = &room.lies[..liars];
-    tower.advance_shared(hearer.v, told, &mut room.shared, &mut room.out, steps);
+    tower.advance_shared(
+        hearer.v,
+        hearer.states,
+        told,
+        &mut room.shared,
+        &mut room.out,
+        steps,
+    );
 }

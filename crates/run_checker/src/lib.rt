@@ -32,6 +32,7 @@ mod versions;
 
 pub use checks::{CertRefusal, CheckError, check_run};
 pub use records::write_run;
+pub use run_explanations::{Explanation, check_explanation, explain};
 
 /// What a certificate that is read to its end comes to.
 #[derive(Clone, Copy, Debug, PartialEq, Eq)]

@@ -260,3 +260,13 @@ value_is plan top from r found plan_is top_is begin is =
     (λ (from : ℕ). found_before (top_of plan).beat (is_faulty r.script) r.script.rounds from
     (seen_at plan r.script) (r.script.rounds + 1))
     begin))
+
+-- what went on to configuration c, and then skipped to another
+pub played_on : (start mid r : Running NoOverlay) (c d : ℕ) → HasPlayed start c mid
+    → IsSkipped mid d r → Plays r → HasPlayed start d r
+played_on start mid r c d first skipped plays = record {
+  plan = skipped.plan ∙ first.plan;
+  script = skipped.script ∙ first.script;
+  at = skipped.at;
+  plays = plays;
+}

@@ -143,6 +143,7 @@ fn first_found(top: TopLevel, runner: &mut Runner<NoOverlay>) -> Option<Explanat
         runner.old.script.rounds (era_begin runner.old.script)
         (seen_at runner.old.plan runner.old.script) (runner.old.script.rounds + 1) }
     ensures played { HasPlayed runner.old runner.new.at runner.new }
+    ensures within { runner.new.at ≤ runner.old.script.rounds }
     ensures knows { KnowsLocks runner.new }
 {
     let begin = last_begin(runner.script());
@@ -155,10 +156,30 @@ fn first_found(top: TopLevel, runner: &mut Runner<NoOverlay>) -> Option<Explanat
     take(search, top, runner).found
 }
 
-/// Plays a script, and answers the first explanation why its last era locks: that of the first
-/// window that has one, and of the first phase in it. None comes exactly if there is none. It
-/// [skips](Runner::skip_to) to the last era, and plays that until there is an explanation and the
-/// first locked configuration of each era is known. It takes no memory.
+/// Plays as much of a script as it takes to know why its last era locks, and answers the first
+/// explanation: that of the first window that has one, and of the first phase in it. None comes
+/// exactly if there is none. It [skips](Runner::skip_to) to the last era, and plays that until
+/// there is an explanation and the first locked configuration of each era is known. It takes no
+/// memory.
+///
+/// The plan has a level, and the runner is one of this plan, at configuration 0.
+pub fn first_explanation(plan: &Plan, runner: &mut Runner<NoOverlay>) -> Option<Explanation>
+    requires level { 1 ≤ plan_depth plan.now }
+    requires start { IsToPlay plan.now runner.old }
+    ensures first { IsFirstOrNone plan.now runner.old.script result }
+    ensures value { result ≡ explanation_of plan.now runner.old.script }
+    ensures played { HasPlayed runner.old runner.new.at runner.new }
+    ensures within { runner.new.at ≤ runner.old.script.rounds }
+    ensures knows { KnowsLocks runner.new }
+{
+    found_is_first();
+    plan.facts();
+    first_found(top_of(plan), runner)
+}
+
+/// Goes on to the end of a script, and answers the first explanation why its last era locks, as
+/// [`first_explanation`] does. None comes exactly if there is none. It [skips](Runner::skip_to)
+/// what it can. It takes no memory.
 ///
 /// The plan has a level, and the runner is one of this plan, at configuration 0.
 pub fn explain(plan: &Plan, runner: &mut Runner<NoOverlay>) -> Option<Explanation>
@@ -166,12 +187,12 @@ pub fn explain(plan: &Plan, runner: &mut Runner<NoOverlay>) -> Option<Explanatio
     requires start { IsToPlay plan.now runner.old }
     ensures first { IsFirstOrNone plan.now runner.old.script result }
     ensures value { result ≡ explanation_of plan.now runner.old.script }
-    ensures played { HasPlayed runner.old runner.new.at runner.new }
-    ensures knows { KnowsLocks runner.new }
+    ensures played { HasPlayed runner.old runner.old.script.rounds runner.new }
 {
-    found_is_first();
-    plan.facts();
-    first_found(top_of(plan), runner)
+    let found = first_explanation(plan, runner);
+    let rounds = runner.script().rounds();
+    runner.skip_to(rounds);
+    found
 }
 
 /// Whether a window and a phase are within the last era, and the phase within the window.

@@ -15,9 +15,6 @@ use Rattle.run_pictures.specs.SweepPictures.{sweep_picture}
 use Rattle.trace_pictures.specs.Traces.{trace_text}
 use Rattle.trace_pictures.specs.TraceLaid.{IsTraceLaid}
 use Rattle.trace_pictures.specs.TracePictures.{trace_picture}
-use Rattle.halving_pictures.specs.HalvingTraceTexts.{halving_trace_text}
-use Rattle.halving_pictures.specs.HalvingLaid.{IsHalvingTraceLaid}
-use Rattle.halving_pictures.specs.HalvingPictures.{halving_picture}
 
 -- the text is that of a figure, all of which stands where it belongs, and the figure's picture, or
 -- the page of that, has this
@@ -29,14 +26,13 @@ pub record DrawsFigure {X : Type 0} (text_of picture_of : X → List ℕ) (Laid 
   pub laid : Laid figure
   pub drawn : holds (formed form text (picture_of figure))
 
--- so it is drawn as a chart, a trace, a trace of a halving plan, a sweep or a choice
+-- so it is drawn as a chart, a trace, a sweep or a choice
 abbrev pub DrawsAs : Form → (text : List ℕ) → (holds : List ℕ → Type 0) → Type 0
 DrawsAs form text holds =
     DrawsFigure chart_text picture_text IsLaid form text holds
     ⊎ (DrawsFigure trace_text trace_picture IsTraceLaid form text holds
-    ⊎ (DrawsFigure halving_trace_text halving_picture IsHalvingTraceLaid form text holds
     ⊎ (DrawsFigure sweep_text sweep_picture IsSweepLaid form text holds
-    ⊎ DrawsFigure choice_text choice_picture IsChoiceLaid form text holds)))
+    ⊎ DrawsFigure choice_text choice_picture IsChoiceLaid form text holds))
 
 -- What was written of a text: its picture, or a prefix of it, or nothing.
 abbrev pub Does : {T : Type 0} → Result T DrawError

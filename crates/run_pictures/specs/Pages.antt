@@ -77,7 +77,7 @@ page_choose = concat (
     ∷ codes "now = [t, node];\n"
     ∷ codes "const hears = newline + '    hears ';\n"
     ∷ codes "const told = lines.get(key).map((words) =>\n"
-    ∷ codes "words.replace(' votes', hears + 'votes').replace(' left said', hears + 'left said'));\n"
+    ∷ codes "words.replace(' votes', hears + 'votes').replace(' saw', hears + 'saw'));\n"
     ∷ codes "const head = 'configuration ' + t + ', node ' + node;\n"
     ∷ codes "said.textContent = [head].concat(told).join(newline);\n"
     ∷ codes "if (go && groups.length)\n"

@@ -7,7 +7,6 @@ use crate::pages::{Form, put_formed};
 use crate::reading::read_chart;
 use crate::{is_choice, is_sweep, read_choice, read_sweep};
 use edge_io::{MemSink, NoMemory, Sink, WriteFault, Writer};
-use halving_pictures::{halving_trace_of, is_halving_trace};
 use picture_parts::{ChartError, Figure};
 use std::alloc::Global;
 use thiserror::Error;
@@ -85,7 +84,7 @@ fn draw_figure<K: Sink, F: Figure>(
 }
 
 /// Draws a text that `run`, `trace`, `sweep` or `choose` wrote. If it answers Ok, the text is that
-/// of a chart, of a trace of either kind, of a sweep or of a choice, letter for letter, and the
+/// of a chart, of a trace, of a sweep or of a choice, letter for letter, and the
 /// picture of this was written, or the page of it.
 ///
 /// `Chart` comes if a line is not what should stand there, `Open` if the last newline is missing,
@@ -94,10 +93,7 @@ fn draw_figure<K: Sink, F: Figure>(
 pub fn draw<K: Sink>(alloc: Global, text: &[u8], form: Form, sink: &mut K) -> Result<(), DrawError>
     ensures { Does result (DrawsAs form text.now) (K.told sink.old) (K.told sink.new) }
 {
-    if is_halving_trace(text) {
-        let trace = halving_trace_of(alloc, text)?;
-        draw_figure(alloc, &trace, text, form, sink)
-    } else if is_trace(alloc, text)? {
+    if is_trace(alloc, text)? {
         let trace = trace_of(alloc, text)?;
         draw_figure(alloc, &trace, text, form, sink)
     } else if is_sweep(text) {

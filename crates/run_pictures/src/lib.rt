@@ -1,7 +1,7 @@
 //! Pictures, in SVG, of what `run`, `trace`, `sweep` or `choose` writes: of a run a column for
 //! each configuration and a line of cells for each node, of a sweep a band for each era, with bars
 //! of how many runs lock when, and of a choice a point for each plan; those of traces stand in
-//! `trace_pictures` and `halving_pictures`.
+//! `trace_pictures`.
 //!
 //! Each of these is a [`Figure`]. That each picture is the defined one of a chart, a trace, a sweep
 //! or a choice, whose own text is just what was read, is proved ([`draw`]), and that what is drawn

@@ -103,7 +103,7 @@ fn put_page_choose<K: Sink>(writer: &mut Writer<'_, K>)
         now = [t, node];\n\
         const hears = newline + '    hears ';\n\
         const told = lines.get(key).map((words) =>\n\
-        words.replace(' votes', hears + 'votes').replace(' left said', hears + 'left said'));\n\
+        words.replace(' votes', hears + 'votes').replace(' saw', hears + 'saw'));\n\
         const head = 'configuration ' + t + ', node ' + node;\n\
         said.textContent = [head].concat(told).join(newline);\n\
         if (go && groups.length)\n\

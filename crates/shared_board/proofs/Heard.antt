@@ -1,5 +1,5 @@
 -- What is heard of a stretch of nodes, by what its correct ones have and its liars say.
-use Rattle.std.proofs.Common.{◌≡◌, ℕ, ◌+◌, ◌≤◌, Bool, true, false, if◌then◌else◌, List, ◌++◌, map}
+use Rattle.std.proofs.Common.{◌≡◌, ℕ, ◌+◌, ◌-◌, ◌*◌, ◌≤◌, Bool, true, false, if◌then◌else◌, List, ◌++◌, map}
 use Rattle.std.proofs.Common.{length, replicate, Option, Some, unwrap_or, refl, sym, ap, ◌∙◌, arith}
 use Rattle.std.specs.List.{range_with_len}
 use Rattle.std.proofs.Math.Path.{fun_ext}
@@ -26,6 +26,39 @@ use Rattle.shared_board.specs.Votes.{known_number, IsKnown}
 pub liars_sum : (s : Sent) (first count : ℕ)
     → liars_below s first + liars_in s first count ≡ liars_below s (first + count)
 liars_sum s first count = omega (arith, shorter (is_liar s) first (first + count) (omega arith))
+
+-- the liars of two stretches, one after the other
+pub liars_two : (s : Sent) (first count more : ℕ)
+    → liars_in s first count + liars_in s (first + count) more ≡ liars_in s first (count + more)
+liars_two s first count more =
+    let at : first + (count + more) ≡ first + count + more = omega arith in
+    omega (
+      arith,
+      liars_sum s first count,
+      liars_sum s (first + count) more,
+      liars_sum s first (count + more),
+      ap (liars_below s) at,
+    )
+
+-- a stretch has no more liars than a longer one
+pub liars_front : (s : Sent) (first count more : ℕ) → count ≤ more
+    → liars_in s first count ≤ liars_in s first more
+liars_front s first count more le =
+    let rest : count + (more - count) ≡ more = omega arith in
+    omega (arith, liars_two s first count (more - count), ap (liars_in s first) rest)
+
+-- the blocks so far and the next one
+pub liars_more : (s : Sent) (first i n : ℕ)
+    → liars_in s first (i * n) + liars_in s (first + i * n) n ≡ liars_in s first ((i + 1) * n)
+liars_more s first i n =
+    let e : i * n + n ≡ (i + 1) * n = omega arith in
+    liars_two s first (i * n) n ∙ ap (liars_in s first) e
+
+-- a block has no more liars than the nodes among which it stands
+pub liars_block : (s : Sent) (first i n nodes : ℕ) → (i + 1) * n ≤ nodes
+    → liars_in s (first + i * n) n ≤ liars_in s first nodes
+liars_block s first i n nodes le =
+    omega (arith, liars_more s first i n, liars_front s first ((i + 1) * n) nodes le)
 
 module _ (s : Sent) (lies : List State) (told : IsTold s lies) (first count : ℕ)
     (within : first + count ≤ length s.registers) where

@@ -69,14 +69,18 @@ struct Asking<'a> {
 }
 
 impl Asking<'_> {
-    /// Puts the vote heard of each block into its place: the known one, or that of its pointers.
-    fn hear_votes(&self, heard: &mut [u64])
+    /// Puts the vote heard of each block into its place: the known one, or that of its pointers. It
+    /// takes at most a step for each liar of the blocks.
+    fn hear_votes<G: Ledger>(&self, heard: &mut [u64], steps: &mut Steps<G>)
         requires { length heard.old ≡ length self.now.site.now.intervals.now }
-        ensures { let site = self.now.site.now in
+        ensures votes { let site = self.now.site.now in
             heard.new ≡ map (λ i. block_vote site.senders.now self.now.hearing.now.lies.now
             (slice_index_or site.intervals.now i 0) site.leaders
             (site.first + i * site.size) site.size)
             (range_with_len 0 (length site.intervals.now)) }
+        ensures steps { let site = self.now.site.now in
+            steps.new ≤ steps.old + liars_in site.senders.now
+            site.first (length site.intervals.now * site.size) }
     {
         let site = self.site;
         for i in 0..heard.len() {
@@ -88,22 +92,26 @@ impl Asking<'_> {
             let poll = &self.pointers[i];
             heard[i] = self
                 .hearing
-                .most(&reading, known, site.start(i), site.size, poll);
+                .most(&reading, known, site.start(i), site.size, poll, steps);
         }
     }
 
-    /// The lead heard of the blocks, the known one or that of their votes.
-    fn lead(&self) -> u64
-        ensures { let site = self.now.site.now in
+    /// The lead heard of the blocks, the known one or that of their votes. It takes at most a step
+    /// for each liar of the blocks.
+    fn lead<G: Ledger>(&self, steps: &mut Steps<G>) -> u64
+        ensures lead { let site = self.now.site.now in
             result ≡ blocks_lead site.senders.now self.now.hearing.now.lies.now
             site.intervals.now site.leaders site.first site.size }
+        ensures steps { let site = self.now.site.now in
+            steps.new ≤ steps.old + liars_in site.senders.now
+            site.first (length site.intervals.now * site.size) }
     {
         if let Some(lead) = self.lead {
             return lead;
         }
         let mut room = [0; MOST_BLOCKS];
         let heard = &mut room[..self.site.intervals.len()];
-        self.hear_votes(heard);
+        self.hear_votes(heard, steps);
         most_of(heard)
     }
 }
@@ -143,7 +151,7 @@ impl Group {
             first: self.first,
             lies,
         };
-        let beat = self.beat_heard(&hearing);
+        let beat = self.beat_heard(&hearing, steps);
         obey(&hearing, beat, own, least, &mut self.values, steps)
     }
 
@@ -165,12 +173,15 @@ impl Group {
         }
     }
 
-    /// The beat that is heard, of a group that is not settled.
-    fn beat_heard<'a>(&'a self, hearing: &'a Hearing<'a>) -> u64
+    /// The beat that is heard, of a group that is not settled. It takes at most two steps for each
+    /// of the group's liars.
+    fn beat_heard<'a, G: Ledger>(&'a self, hearing: &'a Hearing<'a>, steps: &mut Steps<G>) -> u64
         requires stands { StandsFor hearing.now.senders.now self.now }
         requires open { self.now.is_settled ≡ false }
-        ensures { result
+        ensures beat { result
             ≡ beat_of_lead hearing.now.senders.now (contents self.now) hearing.now.lies.now }
+        ensures steps { steps.new ≤ steps.old
+            + 2 * liars_in hearing.now.senders.now self.now.first self.now.nums.nodes }
     {
         if let Some(beat) = self.beat {
             return beat;
@@ -191,7 +202,7 @@ impl Group {
             votes: &self.votes,
             pointers: &self.pointers,
         };
-        let lead = asking.lead() as usize;
+        let lead = asking.lead(steps) as usize;
         let reading = Parts { beat: site.beat };
         hearing.most(
             &reading,
@@ -199,6 +210,7 @@ impl Group {
             site.start(lead),
             site.size,
             &self.parts[lead],
+            steps,
         )
     }
 

@@ -51,8 +51,8 @@ fn known_lead(votes: &[Option<u64>]) -> Option<u64>
     if most + open <= half { Some(0) } else { None }
 }
 
-/// Counts the pointers of the blocks, as far as they decide a vote. The answer is the lead, if it
-/// is known.
+/// Counts the pointers of the blocks, as far as they decide a vote: a step for each correct node.
+/// The answer is the lead, if it is known.
 pub(crate) fn gather_lead<G: Ledger>(
     site: &Site<'_>,
     pointers: &mut [SharedTally],
@@ -63,7 +63,7 @@ pub(crate) fn gather_lead<G: Ledger>(
     ensures blocks { AreAsked site.now.senders.now site.now.intervals.now site.now.leaders
         site.now.first site.now.size result votes.new pointers.new }
     ensures below { IfSome result (λ lead. lead < site.now.leaders) }
-    ensures steps { steps.new ≤ steps.old + length (correct_in site.now.senders.now
+    ensures steps { steps.new ≡ steps.old + length (correct_in site.now.senders.now
         site.now.first (length site.now.intervals.now * site.now.size)) }
 {
     for i in 0..site.intervals.len() {

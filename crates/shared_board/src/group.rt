@@ -1,4 +1,4 @@
-ghost use Rattle.std.specs.Prelude.{◌≡◌, ◌+◌, ◌*◌, ◌≤◌, length, IfOk};
+ghost use Rattle.std.specs.Prelude.{◌≡◌, ◌+◌, ◌*◌, ◌≤◌, true, length, IfOk};
 ghost use Rattle.shared_board.specs.Senders.{correct_in};
 ghost use Rattle.shared_board.specs.GroupVotes.{AreNumbers, IsGroup, StandsFor};
 
@@ -67,7 +67,8 @@ impl Group {
     }
 
     /// Counts the group's correct nodes, as far as something may hang on it, and finds what is
-    /// known whatever its liars say: at most three steps for each correct node.
+    /// known whatever its liars say: at most three steps for each correct node. If the group is
+    /// settled, their values are compared and nothing is placed: one step for each.
     pub fn gather<G: Ledger>(&mut self, senders: &Senders<'_>, steps: &mut Steps<G>)
         requires group { IsGroup self.old }
         requires within { self.old.first + self.old.nums.nodes ≤ length senders.now.registers }
@@ -76,6 +77,8 @@ impl Group {
         ensures first { self.new.first ≡ self.old.first }
         ensures steps { steps.new ≤ steps.old
             + 3 * length (correct_in senders.now self.old.first self.old.nums.nodes) }
+        ensures settled { self.new.is_settled ≡ true → steps.new ≡ steps.old
+            + length (correct_in senders.now self.old.first self.old.nums.nodes) }
     {
         let nodes = self.nums.nodes as usize;
         let faults = self.nums.faults as usize;
@@ -88,6 +91,7 @@ impl Group {
         self.locked = lock.value;
         self.is_settled = lock.is_settled;
         if lock.is_settled {
+            steps.compared(stretch.correct());
             return;
         }
         let site = Site {

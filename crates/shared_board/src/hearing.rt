@@ -1,6 +1,6 @@
 ghost use Rattle.std.specs.Prelude.{◌≡◌, ◌+◌, ◌-◌, ◌/◌, ◌<◌, ◌≤◌, length};
 ghost use Rattle.std.proofs.Props.{props};
-ghost use Rattle.shared_board.specs.Senders.{IsTold, lies_in, value_heard};
+ghost use Rattle.shared_board.specs.Senders.{IsTold, liars_in, lies_in, value_heard};
 ghost use Rattle.shared_board.specs.Votes.{IsMost, most_heard};
 ghost use Rattle.shared_board.specs.GroupVotes.{AreNumbers, AreLies};
 
@@ -8,7 +8,9 @@ use crate::laying::Lies;
 use crate::polls::SharedTally;
 use crate::readings::Reading;
 use crate::senders::Senders;
+use majority_votes::Steps;
 use plan_numbers::LevelNums;
+use std::sync::ledger::Ledger;
 use sync_types::NodeState;
 
 /// What a node of a group hears: the senders, and what the liars among them say to it.
@@ -60,25 +62,28 @@ impl Hearing<'_> {
     }
 
     /// The number heard that most of `count` nodes from `first` on have: the known one, or that of
-    /// their correct ones, which the poll has, with their liars.
-    pub fn most<R: Reading>(
+    /// their correct ones, which the poll has, with their liars. It takes at most a step for each
+    /// of these.
+    pub fn most<R: Reading, G: Ledger>(
         &self,
         reading: &R,
         known: Option<u64>,
         first: usize,
         count: usize,
         poll: &SharedTally,
+        steps: &mut Steps<G>,
     ) -> u64
         requires within { first + count ≤ length self.now.senders.now.registers }
         requires stands { IsMost self.now.senders.now (R.reads reading.now)
             first count known poll.now }
         requires room { count ≤ poll.now.capacity }
-        ensures { result ≡ most_heard self.now.senders.now self.now.lies.now
+        ensures most { result ≡ most_heard self.now.senders.now self.now.lies.now
             (R.reads reading.now) first count }
+        ensures steps { steps.new ≤ steps.old + liars_in self.now.senders.now first count }
     {
         match known {
             Some(most) => most,
-            None => self.lies_in(first, count).most(reading, poll),
+            None => self.lies_in(first, count).most(reading, poll, steps),
         }
     }
 }

@@ -1,5 +1,5 @@
-ghost use Rattle.std.specs.Prelude.{◌≡◌, ◌+◌, ◌≤◌, ◌<◌, ◌++◌, ◌↔◌, map, length, All, Some};
-ghost use Rattle.std.specs.Prelude.{unwrap_or, IsTrue};
+ghost use Rattle.std.specs.Prelude.{◌≡◌, ◌+◌, ◌/◌, ◌≤◌, ◌<◌, ◌++◌, ◌↔◌, map, length, All};
+ghost use Rattle.std.specs.Prelude.{Some, None, unwrap_or, IsTrue};
 ghost use Rattle.counting.specs.Values.{count_of, majority_of, least_above};
 ghost use Rattle.sync_types.specs.States.{register_at};
 ghost use Rattle.construction.specs.Shown.{shown};
@@ -55,19 +55,24 @@ impl Lies<'_> {
         lacking < self.lies.len() && lacking < self.count_number(reading, number)
     }
 
-    /// The number that most have, of those that the poll has and those read of the lies; 0 if there
-    /// is none. Nothing is placed.
-    pub fn most<R: Reading>(&self, reading: &R, poll: &SharedTally) -> u64
-        requires { length poll.now.values + length self.now.lies.now ≤ poll.now.capacity }
-        ensures { let told = map (λ s. Some (R.reads reading.now (shown self.now.height s)))
+    /// The number that more than `half` places hold, of those that the poll has and those read of
+    /// the lies; 0 if there is none. None that the poll has holds so many alone. Each lie's number
+    /// is compared with these, and takes a step.
+    fn most_with<R: Reading, G: Ledger>(
+        &self,
+        reading: &R,
+        half: usize,
+        poll: &SharedTally,
+        steps: &mut Steps<G>,
+    ) -> u64
+        requires half { half ≡ (length poll.now.values + length self.now.lies.now) / 2 }
+        requires open { least_above half poll.now.values ≡ None }
+        ensures most { let told = map (λ s. Some (R.reads reading.now (shown self.now.height s)))
             self.now.lies.now in
             result ≡ unwrap_or (majority_of (poll.now.values ++ told)) 0 }
+        ensures steps { steps.new ≡ steps.old + length self.now.lies.now }
     {
-        let _room = poll.capacity();
-        let half = (poll.len() + self.lies.len()) / 2;
-        if let Some(most) = poll.least_above(half) {
-            return most;
-        }
+        steps.compared(self.lies.len());
         for lie in self.lies {
             let number = reading.of(shown(self.height, lie));
             if half == 0 {
@@ -80,16 +85,42 @@ impl Lies<'_> {
         0
     }
 
-    /// The least finite value that more than `faults` places hold, of the values in the poll and of
-    /// those of the lies. The poll is as before afterwards.
-    pub fn least<G: Ledger>(
+    /// The number that most have, of those that the poll has and those read of the lies; 0 if there
+    /// is none. Nothing is placed. Each lie takes a step, unless the poll decides alone.
+    pub fn most<R: Reading, G: Ledger>(
         &self,
+        reading: &R,
+        poll: &SharedTally,
+        steps: &mut Steps<G>,
+    ) -> u64
+        requires { length poll.now.values + length self.now.lies.now ≤ poll.now.capacity }
+        ensures most { let told = map (λ s. Some (R.reads reading.now (shown self.now.height s)))
+            self.now.lies.now in
+            result ≡ unwrap_or (majority_of (poll.now.values ++ told)) 0 }
+        ensures steps { steps.new ≤ steps.old + length self.now.lies.now }
+    {
+        let _room = poll.capacity();
+        let half = (poll.len() + self.lies.len()) / 2;
+        match poll.least_above(half) {
+            Some(most) => most,
+            None => self.most_with(reading, half, poll, steps),
+        }
+    }
+
+    /// How many places hold a value, and the least finite value that more than `faults` places
+    /// hold, of the values in the poll and of those of the lies, each of which is placed. The poll
+    /// is as before afterwards.
+    pub fn count_and_least<G: Ledger>(
+        &self,
+        value: Option<u64>,
         faults: usize,
         poll: &mut SharedTally,
         steps: &mut Steps<G>,
-    ) -> Option<u64>
+    ) -> (usize, Option<u64>)
         requires { length poll.old.values + length self.now.lies.now ≤ poll.old.capacity }
-        ensures least { result ≡ least_above faults (poll.old.values
+        ensures count { result.0 ≡ count_of (poll.old.values
+            ++ map (λ s. (register_at self.now.height s).a) self.now.lies.now) value }
+        ensures least { result.1 ≡ least_above faults (poll.old.values
             ++ map (λ s. (register_at self.now.height s).a) self.now.lies.now) }
         ensures same { poll.new ≡ poll.old }
         ensures steps { steps.new ≡ steps.old + length self.now.lies.now }
@@ -98,21 +129,28 @@ impl Lies<'_> {
         for lie in self.lies {
             poll.place(lie.reg(self.height).a, steps);
         }
-        let least = poll.least_above(faults);
+        let counted = (poll.count_of(value), poll.least_above(faults));
         poll.cut(held);
-        least
+        counted
     }
 
     /// How many places hold a value, of the values in the poll and of those of the lies; None is
-    /// infinity. Nothing is placed.
-    pub fn count(&self, value: Option<u64>, poll: &SharedTally) -> usize
+    /// infinity. Nothing is placed: each lie's value is compared, and takes a step.
+    pub fn count<G: Ledger>(
+        &self,
+        value: Option<u64>,
+        poll: &SharedTally,
+        steps: &mut Steps<G>,
+    ) -> usize
         requires { length poll.now.values + length self.now.lies.now ≤ poll.now.capacity }
-        ensures { result ≡ count_of (poll.now.values
+        ensures count { result ≡ count_of (poll.now.values
             ++ map (λ s. (register_at self.now.height s).a) self.now.lies.now) value }
+        ensures steps { steps.new ≡ steps.old + length self.now.lies.now }
     {
         let _room = poll.capacity();
         let mut count = poll.count_of(value);
         for lie in self.lies {
+            steps.compared(1);
             if value == lie.reg(self.height).a {
                 count += 1;
             }

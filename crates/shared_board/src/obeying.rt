@@ -150,12 +150,14 @@ pub(crate) fn obey<G: Ledger>(
         if own.a.is_none() {
             return own;
         }
-        return node.obey_zeroth(lies.count(own.a, values));
+        return node.obey_zeroth(lies.count(own.a, values, steps));
     }
-    let same = lies.count(own.a, values);
-    let least = match least {
-        Some(least) => least,
-        None => lies.least(nums.faults as usize, values, steps),
-    };
-    node.obey_first(same, least)
+    match least {
+        Some(least) => node.obey_first(lies.count(own.a, values, steps), least),
+        None => {
+            let faults = nums.faults as usize;
+            let (same, least) = lies.count_and_least(own.a, faults, values, steps);
+            node.obey_first(same, least)
+        }
+    }
 }

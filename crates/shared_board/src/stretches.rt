@@ -1,4 +1,4 @@
-ghost use Rattle.std.specs.Prelude.{◌≡◌, ◌+◌, ◌<◌, ◌≤◌, ◌↔◌, ℕ, false, length, IsTrue};
+ghost use Rattle.std.specs.Prelude.{◌≡◌, ◌+◌, ◌<◌, ◌≤◌, ◌↔◌, ℕ, true, false, length, IsTrue};
 ghost use Rattle.std.specs.Prelude.{None, slice_index_or};
 ghost use Rattle.shared_board.specs.Senders.{is_liar, output_of, correct_in, liars_in, values_of};
 ghost use Rattle.shared_board.specs.Senders.{numbers_of};
@@ -45,7 +45,15 @@ impl NodeRange<'_> {
         self.senders.liars_below(self.end()) - self.senders.liars_below(self.first)
     }
 
-    /// Counts what is read of its correct nodes.
+    /// How many of its nodes are correct.
+    pub fn correct(&self) -> usize
+        ensures { result
+            ≡ length (correct_in self.now.senders.now self.now.first self.now.count) }
+    {
+        self.count - self.liars()
+    }
+
+    /// Counts what is read of its correct nodes, by a step for each.
     pub fn gather_numbers<R: Reading, G: Ledger>(
         &self,
         reading: &R,
@@ -81,23 +89,33 @@ impl NodeRange<'_> {
         None
     }
 
-    /// Whether all of its correct nodes show this.
-    fn all_show(&self, output: u64) -> bool
-        ensures { IsTrue result ↔ ((u : ℕ) → self.now.first ≤ u
+    /// Whether all of its correct nodes show this. If they do, each comparison stands for a placing
+    /// and takes a step; if not, none does, since all are to be placed then.
+    fn all_show<G: Ledger>(&self, output: u64, steps: &mut Steps<G>) -> bool
+        ensures show { IsTrue result ↔ ((u : ℕ) → self.now.first ≤ u
             → u < self.now.first + self.now.count → is_liar self.now.senders.now u ≡ false
             → output_of self.now.senders.now u ≡ output) }
+        ensures all { result ≡ true → steps.new ≡ steps.old
+            + length (correct_in self.now.senders.now self.now.first self.now.count) }
+        ensures none { result ≡ false → steps.new ≡ steps.old }
     {
+        let mut compared = 0;
         for u in self.first..self.end() {
-            if !self.senders.is_liar(u) && self.senders.output(u) != output {
-                return false;
+            if !self.senders.is_liar(u) {
+                if self.senders.output(u) != output {
+                    return false;
+                }
+                compared += 1;
             }
         }
+        steps.compared(compared);
         true
     }
 
     /// Counts what is read of its correct nodes, as far as the liars may decide what most have.
-    /// Else that is known. Nothing is counted if all correct nodes show one number, and they are
-    /// more than the liars.
+    /// Else that is known. Nothing is placed if all correct nodes show one number, and they are
+    /// more than the liars. Each correct node takes a step: what is read of it is placed or
+    /// compared.
     pub fn gather_most<R: Reading, G: Ledger>(
         &self,
         reading: &R,
@@ -108,15 +126,16 @@ impl NodeRange<'_> {
         ensures most { IsMost self.now.senders.now (R.reads reading.now)
             self.now.first self.now.count result poll.new }
         ensures room { poll.new.capacity ≡ poll.old.capacity }
-        ensures steps { steps.new ≤ steps.old
+        ensures steps { steps.new ≡ steps.old
             + length (correct_in self.now.senders.now self.now.first self.now.count) }
     {
         if self.count == 1 && !self.senders.is_liar(self.first) {
+            steps.compared(1);
             return Some(reading.of(self.senders.output(self.first)));
         }
         if self.liars() < self.count - self.count / 2
             && let Some(output) = self.first_output()
-            && self.all_show(output)
+            && self.all_show(output, steps)
         {
             return Some(reading.of(output));
         }
@@ -124,7 +143,7 @@ impl NodeRange<'_> {
         known_number(poll.majority_with(self.liars()))
     }
 
-    /// Counts the values of its correct nodes' registers.
+    /// Counts the values of its correct nodes' registers, by a step for each.
     pub fn gather_values<G: Ledger>(&self, poll: &mut SharedTally, steps: &mut Steps<G>)
         requires { self.now.count ≤ poll.old.capacity }
         ensures poll { poll.new ≡ record poll.old {

@@ -16,6 +16,9 @@ pub mod Grouping
 pub mod LevelModuli
 pub mod PlanStates
 pub mod Further
+pub mod NoNodes
 pub mod Windows
 pub mod PackedFields
 pub mod Configurations
+pub mod Zeros
+pub mod Holding

@@ -165,3 +165,16 @@ bits_of_shape plan accepted v lt none =
     ap bits_in (fields_of_node plan (moduli_of plan.levels) v lt
     ∙ ap (fields_from (all_of plan)) none)
     ∙ bits_of_all plan accepted
+
+-- ---- node 0 of a plan has all fields
+
+pub first_has_all : (plan : Plan) → IsAccepted plan → fields_at (shape_of plan) 0 ≡ all_of plan
+first_has_all plan accepted =
+    let moduli : List ℕ = moduli_of plan.levels in
+    first_fields plan moduli accepted (all_of_accepted plan accepted)
+    ∙ ap (all_over plan) (all_moduli moduli)
+
+pub first_bits : (plan : Plan) → IsAccepted plan
+    → bits_in (fields_at (shape_of plan) 0) ≡ plan_bits plan
+first_bits plan accepted =
+    ap bits_in (first_has_all plan accepted) ∙ bits_of_levels plan.base plan.levels accepted.levels

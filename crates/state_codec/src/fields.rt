@@ -1,6 +1,7 @@
 ghost use Rattle.std.specs.Prelude.{◌≡◌, ◌<◌, ◌≤◌, ◌+◌, ◌*◌, ◌^◌, ◌++◌, length, take};
 ghost use Rattle.std.specs.Prelude.{slice_index_or, IfOk, true, false, ◌≢◌};
 ghost use Rattle.std.specs.Int.{div_ceil};
+ghost use Rattle.sync_types.specs.States.{register_at};
 ghost use Rattle.state_codec.specs.Shapes.{Fields, register_bits, registers_bits, bits_in};
 ghost use Rattle.state_codec.specs.Shapes.{bytes_in, IsFields};
 ghost use Rattle.state_codec.specs.Ranges.{InRange};
@@ -14,7 +15,7 @@ use crate::writer::{Pending, SizedNumber, put};
 use byteorder::{BigEndian, ByteOrder};
 use std::alloc::Global;
 use std::marker::Model;
-use sync_types::{NoMemory, NodeState};
+use sync_types::{NoMemory, NodeState, Reg};
 
 /// No state has more bytes.
 pub const MOST_BYTES: usize = 128;
@@ -214,7 +215,7 @@ impl Fields {
 
     /// The number of the state at the beginning of bytes, by one load of eight bytes; so many more
     /// stand after it.
-    fn number_of(&self, bytes: &[u8]) -> u64
+    pub(crate) fn number_of(&self, bytes: &[u8]) -> u64
         requires { bytes_in self.now + 8 ≤ length bytes.now }
         ensures { result ≡ (read self.now (take (bytes_in self.now) bytes.now)).x }
     {
@@ -223,6 +224,33 @@ impl Fields {
         }
         let number = BigEndian::read_u64(&bytes[..8]) >> (64 - self.front);
         below(self.base, number).unwrap_or(0)
+    }
+
+    /// Register `i` of the state at the beginning of bytes; eight more stand after it.
+    pub(crate) fn register_of(&self, bytes: &[u8], i: usize) -> Reg
+        requires within { bytes_in self.now + 8 ≤ length bytes.now }
+        requires register { i < length self.now.moduli }
+        ensures { result ≡ register_at i (read self.now (take (bytes_in self.now) bytes.now)) }
+    {
+        self.register(i).read(bytes, self.offsets[i] as usize)
+    }
+
+    /// Reads the number and the lowest registers of the state at the beginning of bytes into `out`,
+    /// as many as that has; eight more bytes stand after the state.
+    pub(crate) fn read_lowest(&self, bytes: &[u8], out: &mut NodeState)
+        requires within { bytes_in self.now + 8 ≤ length bytes.now }
+        requires depth { length out.old.registers ≤ length self.now.moduli }
+        ensures { let state = read self.now (take (bytes_in self.now) bytes.now) in
+            out.new ≡ record {
+              x = state.x;
+              registers = take (length out.old.registers) state.registers;
+            } }
+    {
+        self.facts();
+        out.set_x(self.number_of(bytes));
+        for i in 0..out.depth() {
+            out.set_reg(i, self.register_of(bytes, i));
+        }
     }
 
     /// Reads the state at the beginning of bytes into `out`, which has the fields' depth; eight
@@ -234,10 +262,6 @@ impl Fields {
         ensures range { InRange self.now out.new }
     {
         self.facts();
-        out.set_x(self.number_of(bytes));
-        for i in 0..self.moduli.len() {
-            let register = self.register(i).read(bytes, self.offsets[i] as usize);
-            out.set_reg(i, register);
-        }
+        self.read_lowest(bytes, out);
     }
 }

@@ -1,11 +1,13 @@
 //! Laws of states, bytes and digits, for all fields within the limits, and of the shapes of plans.
 
 ghost use Rattle.std.specs.Prelude.{◌≡◌, ◌↔◌, ◌<◌, ℕ, List, true, length};
+ghost use Rattle.std.specs.Int.{div_ceil};
 ghost use Rattle.sync_types.specs.States.{State};
 ghost use Rattle.construction.specs.Plans.{Plan, plan_low, plan_nodes, plan_bits, plan_depth};
 ghost use Rattle.construction.specs.Runs.{IsState};
 ghost use Rattle.plan_numbers.specs.Premises.{IsAccepted};
-ghost use Rattle.state_codec.specs.Shapes.{Fields, IsFields, bits_in, Shape, IsShape, shape_of};
+ghost use Rattle.state_codec.specs.Shapes.{Fields, IsFields, Shape, IsShape, shape_of, bits_in};
+ghost use Rattle.state_codec.specs.Shapes.{bytes_in};
 ghost use Rattle.state_codec.specs.Shapes.{shape_with, with_further, shape_nodes, fields_at};
 ghost use Rattle.state_codec.specs.Shapes.{all_of, fields_from};
 ghost use Rattle.state_codec.specs.Ranges.{InRange};
@@ -46,6 +48,17 @@ pub fn plans_have_shapes()
         → bits_in (fields_at (shape_of plan) v) ≡ plan_bits plan }
     ensures depth { (plan : Plan) → (shape_of plan).depth ≡ plan_depth plan }
     ensures nodes { (plan : Plan) → shape_nodes (shape_of plan) ≡ plan_nodes plan }
+{}
+
+/// Node 0 of an accepted plan has all fields: the modulus of the base, and for each level a register
+/// with its modulus. So its states have the plan's bits and bytes.
+pub fn first_node_has_all()
+    ensures fields { (plan : Plan) → IsAccepted plan
+        → fields_at (shape_of plan) 0 ≡ all_of plan }
+    ensures bits { (plan : Plan) → IsAccepted plan
+        → bits_in (fields_at (shape_of plan) 0) ≡ plan_bits plan }
+    ensures bytes { (plan : Plan) → IsAccepted plan
+        → bytes_in (fields_at (shape_of plan) 0) ≡ div_ceil (plan_bits plan) 8 }
 {}
 
 /// The states of a node's fields are those of the plan's node.

@@ -214,6 +214,42 @@ impl StateShape {
         self.fields(v).bytes()
     }
 
+    /// How many bits a state of node 0 has, without padding. That node of a plan has all fields. It
+    /// is 0 if there are no nodes.
+    pub fn bits(&self) -> u32
+        ensures { result ≡ bits_in (fields_at self.now 0) }
+    {
+        self.facts();
+        if self.nodes() == 0 {
+            return 0;
+        }
+        self.bits_of(0)
+    }
+
+    /// How many bytes a state of node 0 has, at most 128. That node of a plan has all fields. It is
+    /// 0 if there are no nodes.
+    pub fn bytes(&self) -> usize
+        ensures value { result ≡ bytes_in (fields_at self.now 0) }
+        ensures most { result ≤ 128 }
+    {
+        self.facts();
+        if self.nodes() == 0 {
+            return 0;
+        }
+        self.bytes_of(0)
+    }
+
+    /// The modulus of register `i` of node 0, the lowest being 0. That node of a plan has all
+    /// fields. It is at most 2^40, and 0 if the node lacks the register.
+    pub fn modulus(&self, i: usize) -> u64
+        requires { i < self.now.depth }
+        ensures value { result ≡ slice_index (fields_at self.now 0).moduli i }
+        ensures most { result ≤ 2 ^ 40 }
+    {
+        self.facts();
+        self.modulus_of(0, i)
+    }
+
     /// Writes the bytes of a state of node `v` into `out`, which has just their length,
     /// `bytes_of(v)`.
     pub fn write_state(&self, v: u32, state: &NodeState, out: &mut [u8])

@@ -11,6 +11,7 @@ ghost use Rattle.states.specs.Values.{
 };
 
 use edge_io::{Lines, Words, is_skipped, numbers_after};
+use thiserror::Error;
 
 /// How many registers a layer has at most.
 const MOST_REGISTERS: usize = 2;
@@ -29,7 +30,8 @@ pub struct Layer {
 }
 
 /// The line of this number begins with the word `values`, and says no register.
-#[derive(Clone, Copy, Debug, PartialEq, Eq)]
+#[derive(Clone, Copy, Debug, PartialEq, Eq, Error)]
+#[error("line {line} says no register of a layer")]
 pub struct NotValues {
     pub line: u64,
 }

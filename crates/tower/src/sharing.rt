@@ -88,31 +88,33 @@ impl Tower {
         shared.is_made = true;
     }
 
-    /// The step of a node, by what the liars say to it: `lies` has a state of each, in the order of
-    /// their ids, that of the node itself being its own. It writes the number and a register for
-    /// each level, and leaves the other registers of `out`. It takes no memory, and at most three
-    /// steps a level for each liar; `shared` stands for the same afterwards.
+    /// The step of a node from the current states of a configuration, for which `shared` stands, by
+    /// what the liars say to it: `lies` has a state of each, in the order of their ids, that of the
+    /// node itself being its own. It writes the number and a register for each level, and leaves
+    /// the other registers of `out`. It takes no memory, and at most three steps a level for each
+    /// liar; `shared` stands for the same afterwards.
     pub fn advance_shared<G: Ledger>(
         &self,
         node: u32,
+        config: &Packed,
         lies: &[NodeState],
         shared: &mut Shared,
         out: &mut NodeState,
         steps: &mut Steps<G>,
     )
-        requires plan { shared.old.plan ≡ self.now }
-        requires size { length shared.old.states ≡ plan_nodes self.now }
+        requires stands { shared.old
+            ≡ stands_for self.now config.now.current shared.old.faulty }
+        requires size { length config.now.current ≡ plan_nodes self.now }
         requires node { node < plan_nodes self.now }
         requires tells { Tells shared.old node lies.now }
         requires told { AreTold self.now lies.now }
         requires out { plan_depth self.now ≤ length out.old.registers }
-        ensures out { (config : List State) (faulty : List ℕ)
-            → shared.old ≡ stands_for self.now config faulty
-            → out.new ≡ written (plan_depth self.now) (step_of self.now node
-            (heard_with faulty lies.now config)) out.old }
+        ensures out { out.new ≡ written (plan_depth self.now) (step_of self.now node
+            (heard_with shared.old.faulty lies.now config.now.current)) out.old }
         ensures same { shared.new ≡ shared.old }
         ensures cost { steps.new ≤ steps.old + 3 * plan_depth self.now * length shared.old.faulty }
     {
+        config.facts();
         let row = &shared.rows[node as usize];
         let next = if row.low == 0 {
             after(shared.board.number(node as usize), shared.base)

@@ -6,7 +6,8 @@ use Rattle.std.specs.Prelude.{nat_eq, nat_lt, if◌then◌else◌, IfSome}
 use Rattle.std.specs.List.{flat_map}
 use Rattle.std.proofs.lemmas.Bool.{eq-eqb, ne_eqb}
 use Rattle.halving_plan.specs.Groups.{HalvingGroup, half_in, left_of, right_of}
-use Rattle.trace.specs.Groups.{in_half, groups_within, groups_of}
+use Rattle.trace.specs.declared.sides.Side.{Side}
+use Rattle.trace.specs.Groups.{SidedGroup, side_in, in_half, groups_within, groups_of}
 
 by_tests : (a b : Bool) (left right : HalvingGroup) (most : ℕ) → left.faults ≤ most
     → right.faults ≤ most
@@ -23,7 +24,7 @@ half_fewer group v =
     (nat_lt v ((right_of group).first + (right_of group).nodes)) (left_of group) (right_of group)
     (group.faults - 1) (omega arith) (omega arith)
 
-half_same : (one other : HalvingGroup → List HalvingGroup) (o : Option HalvingGroup)
+half_same : (one other : HalvingGroup → List SidedGroup) (o : Option HalvingGroup)
     → IfSome o (λ h. one h ≡ other h) → in_half o one ≡ in_half o other
 half_same one other None same = refl
 half_same one other (Some half) same = same
@@ -33,62 +34,77 @@ one_within : (most : ℕ) (o : Option HalvingGroup) (P : HalvingGroup → Type 0
 one_within most None P few all = tt
 one_within most (Some half) P few all = all half few
 
-none_within : (m : ℕ) (group : HalvingGroup) (v : ℕ) → group.faults ≡ 0
-    → groups_within m group v ≡ []
-none_within zero group v e = refl
-none_within (suc m) group v e =
+none_within : (m : ℕ) (side : Side) (group : HalvingGroup) (v : ℕ) → group.faults ≡ 0
+    → groups_within m side group v ≡ []
+none_within zero side group v e = refl
+none_within (suc m) side group v e =
     let none : nat_eq group.faults 0 ≡ true = eq-eqb group.faults 0 e in
-    ap (λ (b : Bool). if b then [] else group ∷ in_half (half_in group v)
-    (λ half. groups_within m half v)) none
+    ap (λ (b : Bool). if b then [] else record { side = side; group = group }
+    ∷ in_half (half_in group v) (λ half. groups_within m (side_in group half) half v)) none
 
 -- more than there are faults are not needed
-pub enough : (n m : ℕ) (group : HalvingGroup) (v : ℕ) → group.faults ≤ n → group.faults ≤ m
-    → groups_within n group v ≡ groups_within m group v
-enough zero m group v a b = sym (none_within m group v (omega arith))
-enough (suc n) zero group v a b = none_within (suc n) group v (omega arith)
-enough (suc n) (suc m) group v a b =
-    ap (λ (rest : List HalvingGroup). if nat_eq group.faults 0 then [] else group ∷ rest)
-    (half_same (λ half. groups_within n half v) (λ half. groups_within m half v) (half_in group v)
-    (one_within (group.faults - 1) (half_in group v)
-    (λ half. groups_within n half v ≡ groups_within m half v) (half_fewer group v)
-    (λ half few. enough n m half v (omega (arith, few, a)) (omega (arith, few, b)))))
-
-pub no_groups : (group : HalvingGroup) (v : ℕ) → group.faults ≡ 0 → groups_of group v ≡ []
-no_groups group v e = none_within group.faults group v e
-
-some_within : (k : ℕ) (group : HalvingGroup) (v : ℕ) → 0 < group.faults
-    → groups_within (suc k) group v
-    ≡ group ∷ in_half (half_in group v) (λ half. groups_within k half v)
-some_within k group v some =
-    let other : nat_eq group.faults 0 ≡ false = ne_eqb group.faults 0 (λ e. omega (arith, e)) in
-    ap (λ (b : Bool). if b then [] else group ∷ in_half (half_in group v)
-    (λ half. groups_within k half v)) other
-
-pub groups_are : (group : HalvingGroup) (v : ℕ) → 0 < group.faults
-    → groups_of group v ≡ group ∷ in_half (half_in group v) (λ half. groups_of half v)
-groups_are group v some =
-    let k = group.faults - 1 in
-    enough group.faults (suc k) group v (omega arith) (omega arith)
-    ∙ (some_within k group v some
-    ∙ ap (λ (rest : List HalvingGroup). group ∷ rest)
-    (half_same (λ half. groups_within k half v) (λ half. groups_of half v) (half_in group v)
-    (one_within k (half_in group v) (λ half. groups_within k half v ≡ groups_of half v)
+pub enough : (n m : ℕ) (side : Side) (group : HalvingGroup) (v : ℕ) → group.faults ≤ n
+    → group.faults ≤ m → groups_within n side group v ≡ groups_within m side group v
+enough zero m side group v a b = sym (none_within m side group v (omega arith))
+enough (suc n) zero side group v a b = none_within (suc n) side group v (omega arith)
+enough (suc n) (suc m) side group v a b =
+    let at : (k : ℕ) → HalvingGroup → List SidedGroup = λ k half.
+    groups_within k (side_in group half) half v in
+    ap (λ (rest : List SidedGroup). if nat_eq group.faults 0 then []
+    else record { side = side; group = group } ∷ rest)
+    (half_same (at n) (at m) (half_in group v)
+    (one_within (group.faults - 1) (half_in group v) (λ half. at n half ≡ at m half)
     (half_fewer group v)
-    (λ half few. enough k half.faults half v few (omega arith)))))
+    (λ half few. enough n m (side_in group half) half v (omega (arith, few, a))
+    (omega (arith, few, b)))))
+
+pub no_groups : (side : Side) (group : HalvingGroup) (v : ℕ) → group.faults ≡ 0
+    → groups_of side group v ≡ []
+no_groups side group v e = none_within group.faults side group v e
+
+some_within : (k : ℕ) (side : Side) (group : HalvingGroup) (v : ℕ) → 0 < group.faults
+    → groups_within (suc k) side group v
+    ≡ record { side = side; group = group }
+    ∷ in_half (half_in group v) (λ half. groups_within k (side_in group half) half v)
+some_within k side group v some =
+    let other : nat_eq group.faults 0 ≡ false = ne_eqb group.faults 0 (λ e. omega (arith, e)) in
+    ap (λ (b : Bool). if b then [] else record { side = side; group = group }
+    ∷ in_half (half_in group v) (λ half. groups_within k (side_in group half) half v)) other
+
+-- those of a half of a group
+abbrev pub groups_in : HalvingGroup → (v : ℕ) → HalvingGroup → List SidedGroup
+groups_in group v half = groups_of (side_in group half) half v
+
+pub groups_are : (side : Side) (group : HalvingGroup) (v : ℕ) → 0 < group.faults
+    → groups_of side group v
+    ≡ record { side = side; group = group } ∷ in_half (half_in group v) (groups_in group v)
+groups_are side group v some =
+    let k = group.faults - 1 in
+    let at : HalvingGroup → List SidedGroup = λ half.
+    groups_within k (side_in group half) half v in
+    enough group.faults (suc k) side group v (omega arith) (omega arith)
+    ∙ (some_within k side group v some
+    ∙ ap (λ (rest : List SidedGroup). record { side = side; group = group } ∷ rest)
+    (half_same at (groups_in group v) (half_in group v)
+    (one_within k (half_in group v) (λ half. at half ≡ groups_in group v half)
+    (half_fewer group v)
+    (λ half few. enough k half.faults (side_in group half) half v few (omega arith)))))
 
 -- ---- their lines
 
-module _ (line : HalvingGroup → List ℕ) (group : HalvingGroup) (v : ℕ) (some : 0 < group.faults) where
+module _ (line : SidedGroup → List ℕ) (side : Side) (group : HalvingGroup) (v : ℕ)
+    (some : 0 < group.faults) where
+  abbrev pub own : List ℕ
+  own = line (record { side = side; group = group })
+
   pub lines_in_half : (half : HalvingGroup) → Some half ≡ half_in group v
-      → line group ++ flat_map line (groups_of half v) ≡ flat_map line (groups_of group v)
+      → own ++ flat_map line (groups_in group v half) ≡ flat_map line (groups_of side group v)
   lines_in_half half is =
-      ap (λ (o : Option HalvingGroup). line group ++ flat_map line
-      (in_half o (λ half. groups_of half v))) is
-      ∙ ap (flat_map line) (sym (groups_are group v some))
+      ap (λ (o : Option HalvingGroup). own ++ flat_map line (in_half o (groups_in group v))) is
+      ∙ ap (flat_map line) (sym (groups_are side group v some))
 
   pub lines_of_spare : None ≡ half_in group v
-      → line group ++ [] ≡ flat_map line (groups_of group v)
+      → own ++ [] ≡ flat_map line (groups_of side group v)
   lines_of_spare is =
-      ap (λ (o : Option HalvingGroup). line group ++ flat_map line
-      (in_half o (λ half. groups_of half v))) is
-      ∙ ap (flat_map line) (sym (groups_are group v some))
+      ap (λ (o : Option HalvingGroup). own ++ flat_map line (in_half o (groups_in group v))) is
+      ∙ ap (flat_map line) (sym (groups_are side group v some))

@@ -8,14 +8,15 @@ use Rattle.construction.specs.Steps.{state_of}
 use Rattle.adversary_script.specs.Scripts.{Script}
 use Rattle.adversary_script.specs.Eras.{faulty_at}
 use Rattle.machine_runner.specs.Played.{heard_at}
-use Rattle.halving_plan.specs.Groups.{HalvingGroup, whole_of}
+use Rattle.halving_plan.specs.Groups.{whole_of}
 use Rattle.halving_plan.specs.Plans.{HalvingNumbers}
 use Rattle.trace.specs.declared.headings.Heading.{Heading}
 use Rattle.trace.specs.HalvingNodeTexts.{state_line, group_lines, view_text, node_text}
-use Rattle.trace.specs.Groups.{groups_of}
+use Rattle.trace.specs.Groups.{SidedGroup, groups_of}
+use Rattle.trace.specs.declared.sides.Side.TheVariants as which
 
 by_hearing : (h : Heading) (faulty : List ℕ) (config : List State) (hears : Bool)
-    (groups : List HalvingGroup) (one other : List State) → (hears ≡ true → one ≡ other)
+    (groups : List SidedGroup) (one other : List State) → (hears ≡ true → one ≡ other)
     → group_lines h faulty config hears one groups ≡ group_lines h faulty config hears other groups
 by_hearing h faulty config true groups one other same =
     ap (λ (heard : List State). group_lines h faulty config true heard groups) (same refl)
@@ -44,7 +45,7 @@ module _ (plan : HalvingNumbers) (script : Script) (t v : ℕ) (states : List St
       ∙ (ap (λ (p : HalvingNumbers). view_text heading (faulty_at script t) states hears p heard)
       numbers_is
       ∙ (ap (λ (x : List ℕ). state_line heading plan (state_of states v) ++ x)
-      (by_hearing heading (faulty_at script t) states hears (groups_of (whole_of plan) v) heard
+      (by_hearing heading (faulty_at script t) states hears (groups_of which.Whole (whole_of plan) v) heard
       (heard_at script t states v) heard_is)
       ∙ ap (λ (b : Bool). view_text heading (faulty_at script t) states b plan
       (heard_at script t states v)) hears_is)))))

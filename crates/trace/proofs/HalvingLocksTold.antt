@@ -10,22 +10,23 @@ use Rattle.construction.specs.Steps.{state_of}
 use Rattle.adversary_script.specs.Eras.{faulty_at}
 use Rattle.machine_runner.specs.Locks.{are_locked, correct_registers, is_locked_by, is_locked}
 use Rattle.machine_runner.specs.Played.{played_at, heard_at}
-use Rattle.halving_plan.specs.Groups.{HalvingGroup, sizes_of, whole_of, half_in}
+use Rattle.halving_plan.specs.Groups.{HalvingGroup, whole_of, half_in}
 use Rattle.halving_plan.specs.Trees.{tree_for}
 use Rattle.halving_plan.specs.Laws.{machine_in}
 use Rattle.halving_plan.specs.LevelStates.{LevelState}
 use Rattle.halving_plan.specs.Plans.{HalvingNumbers, IsAccepted}
-use Rattle.halving_plan.specs.GroupHearing.{level_state_in, level_states_in}
+use Rattle.halving_plan.specs.GroupHearing.{level_state_in}
 use Rattle.halving_plan.specs.Runs.{lock_of}
 use Rattle.halving_plan.proofs.Sound.{nodes_are}
 use Rattle.trace.specs.declared.headings.Heading.{Heading}
 use Rattle.trace.specs.GroupTexts.{group_front, group_line, held_part, heard_if}
-use Rattle.trace.specs.Groups.{groups_of, in_half}
+use Rattle.trace.specs.Groups.{SidedGroup, groups_of, in_half}
+use Rattle.trace.specs.declared.sides.Side.TheVariants as which
 use Rattle.trace.specs.Laws.{HasPart, told_mark, told_front, HalvingLocksAreTold}
 use Rattle.trace.specs.HalvingNodeTexts.{state_line, group_lines, view_text, node_text}
 use Rattle.trace.specs.HalvingTraceTexts.{moment_text}
 use Rattle.trace.specs.Words.{number_or_none}
-use Rattle.trace.proofs.GroupDescent.{groups_are}
+use Rattle.trace.proofs.GroupDescent.{groups_are, groups_in}
 use Rattle.trace.proofs.LockWords.{word_is}
 use Rattle.trace.proofs.TextParts.{part_left, part_right, part_of, part_between}
 
@@ -46,6 +47,9 @@ module _ (plan : HalvingNumbers) (accepted : IsAccepted plan) (some : 0 < plan.f
   abbrev whole : HalvingGroup
   whole = whole_of plan
 
+  abbrev all : SidedGroup
+  all = record { side = which.Whole; group = whole }
+
   abbrev own : LevelState
   own = level_state_in whole (state_of config v)
 
@@ -55,7 +59,7 @@ module _ (plan : HalvingNumbers) (accepted : IsAccepted plan) (some : 0 < plan.f
   -- what is told of the whole
   abbrev told : List ℕ
   told =
-      told_front t v (codes " group " ∷ decimal 0 ∷ codes " " ∷ decimal (plan.nodes - 1) ∷ [])
+      told_front t v (codes " whole " ∷ decimal 0 ∷ codes " " ∷ decimal (plan.nodes - 1) ∷ [])
       (register_at 0 (state_of config v)) locked
 
   locked_is : are_locked (correct_registers 0 plan.nodes faulty config) ≡ locked
@@ -63,23 +67,22 @@ module _ (plan : HalvingNumbers) (accepted : IsAccepted plan) (some : 0 < plan.f
       sym (ap₂ (λ (lock : Option ℕ) (n : ℕ). is_locked_by lock n faulty config)
       (lock_is plan.faults (plan.nodes - (3 * plan.faults + 1)) some) (nodes_are plan accepted))
 
-  front_is : group_front heading faulty config whole own.register ≡ told
+  front_is : group_front heading faulty config all own.register ≡ told
   front_is =
       let last : 0 + plan.nodes - 1 ≡ plan.nodes - 1 = omega arith in
       ap₂ (λ (last : ℕ) (word : List ℕ). concat (codes "at " ∷ decimal t ∷ codes " node "
-      ∷ decimal v ∷ codes " group " ∷ decimal 0 ∷ codes " " ∷ decimal last
+      ∷ decimal v ∷ codes " whole " ∷ decimal 0 ∷ codes " " ∷ decimal last
       ∷ codes " value " ∷ number_or_none own.register.a ∷ word ∷ [])) last
       (word_is 0 plan.nodes faulty config v node correct ∙ ap (told_mark own.register.d) locked_is)
 
   module _ (hears : Bool) (heard : List State) where
-    abbrev line : HalvingGroup → List ℕ
+    abbrev line : SidedGroup → List ℕ
     line group = group_line heading faulty config hears heard group
 
-    line_tells : HasPart told (line whole)
+    line_tells : HasPart told (line all)
     line_tells =
         let rest : List ℕ =
-        held_part plan.faults 0 own
-        ++ (heard_if hears (sizes_of whole) own (level_states_in whole heard) ++ codes "\n") in
+        held_part whole faulty own ++ (heard_if hears whole own heard ++ codes "\n") in
         record {
           before = [];
           after = rest;
@@ -88,13 +91,13 @@ module _ (plan : HalvingNumbers) (accepted : IsAccepted plan) (some : 0 < plan.f
 
     view_tells : HasPart told (view_text heading faulty config hears plan heard)
     view_tells =
-        let others : List HalvingGroup = in_half (half_in whole v) (λ half. groups_of half v) in
-        let lines : HasPart told (flat_map line (whole ∷ others)) =
-        part_left told (line whole) (flat_map line others) line_tells in
+        let others : List SidedGroup = in_half (half_in whole v) (groups_in whole v) in
+        let lines : HasPart told (flat_map line (all ∷ others)) =
+        part_left told (line all) (flat_map line others) line_tells in
         part_right told (state_line heading plan (state_of config v))
-        (group_lines heading faulty config hears heard (groups_of whole v))
-        (subst (λ (groups : List HalvingGroup). HasPart told (flat_map line groups))
-        (sym (groups_are whole v some)) lines)
+        (group_lines heading faulty config hears heard (groups_of which.Whole whole v))
+        (subst (λ (groups : List SidedGroup). HasPart told (flat_map line groups))
+        (sym (groups_are which.Whole whole v some)) lines)
 
 pub halving_locks_are_told : HalvingLocksAreTold
 halving_locks_are_told plan script nodes first last t v accepted some from to named node correct =

@@ -9,13 +9,14 @@ use Rattle.adversary_script.specs.Eras.{faulty_at}
 use Rattle.machine_runner.specs.Played.{heard_at}
 use Rattle.halving_plan.specs.Steps.{shown_in}
 use Rattle.halving_plan.specs.Fields.{fields_of}
-use Rattle.halving_plan.specs.Groups.{HalvingGroup, whole_of}
+use Rattle.halving_plan.specs.Groups.{whole_of}
 use Rattle.halving_plan.specs.Plans.{HalvingNumbers, tree_of}
 use Rattle.trace.specs.declared.headings.Heading.{Heading}
 use Rattle.trace.specs.Headings.{heading_of}
 use Rattle.trace.specs.Words.{shown_line}
 use Rattle.trace.specs.GroupTexts.{group_line}
-use Rattle.trace.specs.Groups.{groups_of}
+use Rattle.trace.specs.Groups.{SidedGroup, groups_of}
+use Rattle.trace.specs.declared.sides.Side.TheVariants as which
 
 -- the number of a node; one that lacks it, as a spare, has the modulus 1 there
 abbrev pub number_of_node : HalvingNumbers → (v : ℕ) → State → Option ℕ
@@ -29,7 +30,7 @@ state_line h plan state =
 
 -- those of groups
 abbrev pub group_lines : Heading → (faulty : List ℕ) → (config : List State) → (hears : Bool)
-    → (heard : List State) → List HalvingGroup → List ℕ
+    → (heard : List State) → List SidedGroup → List ℕ
 group_lines h faulty config hears heard groups =
     flat_map (group_line h faulty config hears heard) groups
 
@@ -39,7 +40,7 @@ abbrev pub view_text : Heading → (faulty : List ℕ) → (config : List State)
     → HalvingNumbers → (heard : List State) → List ℕ
 view_text h faulty config hears plan heard =
     state_line h plan (state_of config h.node)
-    ++ group_lines h faulty config hears heard (groups_of (whole_of plan) h.node)
+    ++ group_lines h faulty config hears heard (groups_of which.Whole (whole_of plan) h.node)
 
 -- The lines of node v in configuration t, with what it hears in round t; after the last
 -- configuration no round follows.

@@ -68,7 +68,7 @@ abbrev pub TellsHalvingLock : HalvingNumbers → (faulty : List ℕ) → (config
     → (text : List ℕ) → Type 0
 TellsHalvingLock plan faulty config t v text =
     HasPart (told_front t v
-    (codes " group " ∷ decimal 0 ∷ codes " " ∷ decimal (plan.nodes - 1) ∷ [])
+    (codes " whole " ∷ decimal 0 ∷ codes " " ∷ decimal (plan.nodes - 1) ∷ [])
     (register_at 0 (state_of config v)) (machine.is_locked (machine_in plan) faulty config))
     text
 

@@ -42,12 +42,11 @@ two_eras shape faulty then starts hit lies = record (empty_script 4 shape) {
   last = 2;
 }
 
--- One round, of so many nodes with so many registers. One node is faulty, and the nodes without a
--- start are in zeros.
-abbrev pub one_round : (nodes depth faulty : ℕ) → (starts : List Start) → Script
+-- One round, of so many nodes with so many registers. The nodes without a start are in zeros.
+abbrev pub one_round : (nodes depth : ℕ) → (faulty : List ℕ) → (starts : List Start) → Script
 one_round nodes depth faulty starts =
     record (empty_script nodes (record { depth = depth; fields = [] })) {
-      faulty = faulty ∷ [];
+      faulty = faulty;
       starts = starts;
       rounds = 1;
       last = 1;
@@ -98,7 +97,7 @@ holds_two x a d b e = record {
 -- first two blocks most nodes point to leader 1.
 abbrev pub twelve_script : Script
 twelve_script =
-    one_round 12 2 7
+    one_round 12 2 (7 ∷ [])
     (begins 0 (holds_two 0 15 false 3 true) ∷ begins 1 (holds_two 0 15 false 3 true)
     ∷ begins 2 (holds_two 0 15 false 3 true) ∷ begins 4 (holds_two 9 65 true 3 true)
     ∷ begins 5 (holds_two 40 65 true 3 true) ∷ begins 6 (holds_two 144 65 true 3 true)
@@ -112,33 +111,29 @@ halving_plan = record { nodes = 4; faults = 1; modulus = 10 }
 
 -- a number, and a level state in the group
 abbrev pub holds_level : (x : ℕ) → LevelState → State
-holds_level x own = record { x = x; registers = registers_of 1 own }
+holds_level x own = record { x = x; registers = registers_of own }
 
--- A level state: a register of the phase king, which instruction comes, of the half that began
--- them; the age of the left halving, and which halving were seen.
-abbrev pub level_state : (a : Option ℕ) → (d : Bool) → (instruction : ℕ) → (by_left : Bool)
-    → (age : ℕ) → (left right : Bool) → LevelState
-level_state a d instruction by_left age left right = record {
+-- A level state: a register of the phase king; what was seen of the left half, and whether that is
+-- trusted.
+abbrev pub level_state : (a : Option ℕ) → (d : Bool) → (seen : ℕ) → (trusted : Bool) → LevelState
+level_state a d seen trusted = record {
   register = record { a = a; d = d };
-  instruction = instruction;
-  begun_by_left = by_left;
-  age = age;
-  saw_left = left;
-  saw_right = right;
+  seen = seen;
+  trusted = trusted;
 }
 
 -- Node 0 is faulty in configuration 0, where the others are locked, and node 3 from configuration 1
--- on, where node 0 is not marked. Each tells one node that it saw the left halving.
+-- on, where node 0 has no value. Each tells one node that it saw another number of the left half.
 abbrev pub halving_script : Shape → Script
 halving_script shape =
     two_eras shape 0 3
-    (begins 0 (holds_level 5 (level_state (Some 7) false 6 true 3 false false))
-    ∷ begins 1 (holds_level 2 (level_state (Some 4) true 0 false 17 true true))
-    ∷ begins 2 (holds_level 0 (level_state (Some 4) true 1 true 17 true true))
-    ∷ begins 3 (holds_level 0 (level_state (Some 4) true 5 true 16 false true)) ∷ [])
-    (begins 0 (holds_level 0 (level_state (Some 5) false 4 false 17 true false)))
-    (tells 0 0 1 1 (holds_level 0 (level_state None false 0 false 0 true false))
-    ∷ tells 1 3 0 0 (holds_level 0 (level_state None false 0 false 0 true false)) ∷ [])
+    (begins 0 (holds_level 5 (level_state (Some 7) false 2 false))
+    ∷ begins 1 (holds_level 2 (level_state (Some 4) true 6 true))
+    ∷ begins 2 (holds_level 0 (level_state (Some 4) true 6 true))
+    ∷ begins 3 (holds_level 0 (level_state (Some 4) true 4 true)) ∷ [])
+    (begins 0 (holds_level 0 (level_state None false 7 true)))
+    (tells 0 0 1 1 (holds_level 0 (level_state None false 6 false))
+    ∷ tells 1 3 0 0 (holds_level 0 (level_state None false 7 false)) ∷ [])
 
 -- the nodes 1 to 4 are the right half, in which the nodes 3 and 4 are spares
 abbrev pub seven_plan : HalvingNumbers
@@ -146,18 +141,18 @@ seven_plan = record { nodes = 7; faults = 2; modulus = 10 }
 
 -- level states in the whole and in the right half
 abbrev pub seven_whole : LevelState
-seven_whole = level_state (Some 5) true 7 false 26 true false
+seven_whole = level_state (Some 5) true 9 true
 
 abbrev pub seven_right : LevelState
-seven_right = level_state (Some 2) true 5 true 3 false true
+seven_right = level_state (Some 2) true 3 true
 
 abbrev pub in_right : State
-in_right = record { x = 0; registers = registers_of 2 seven_whole ++ registers_of 1 seven_right }
+in_right = record { x = 0; registers = registers_of seven_whole ++ registers_of seven_right }
 
--- the right half is locked, and the whole is not, for node 6
+-- The right half is locked, though it is not sound, and the whole is not locked, for node 6.
 abbrev pub seven_script : Script
 seven_script =
-    one_round 7 8 0
+    one_round 7 4 (1 ∷ 4 ∷ [])
     (begins 1 in_right ∷ begins 2 in_right ∷ begins 3 in_right ∷ begins 4 in_right
     ∷ begins 5
-    (record { x = 0; registers = registers_of 2 seven_whole ++ replicate 4 zero_register }) ∷ [])
+    (record { x = 0; registers = registers_of seven_whole ++ replicate 2 zero_register }) ∷ [])

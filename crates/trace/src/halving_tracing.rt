@@ -15,6 +15,7 @@ use crate::group_lines::put_groups;
 use crate::halving_desks::HalvingBuffers;
 use crate::halving_node_lines::put_state;
 use crate::headings::Heading;
+use crate::sides::Side;
 use crate::views::View;
 use crate::wants::Want;
 use counter_core::Heard;
@@ -74,7 +75,14 @@ fn put_node_lines<K: Sink>(
     };
     put_state(writer, &plan, &view);
     let heard = Heard::of(&desk.heard);
-    put_groups(writer, &plan.whole(), &view, &heard, &mut desk.room);
+    put_groups(
+        writer,
+        Side::Whole,
+        &plan.whole(),
+        &view,
+        &heard,
+        &mut desk.room,
+    );
 }
 
 /// Writes the lines of these nodes in the runner's configuration.

@@ -1,5 +1,7 @@
 ghost use Rattle.std.specs.Prelude.{◌≡◌, ◌+◌, ◌<◌, ◌≤◌, length, All};
 ghost use Rattle.machine_runner.specs.Locks.{is_locked_at};
+ghost use Rattle.halving_plan.specs.Level.{faults_in};
+ghost use Rattle.sync_types.specs.FaultSets.{is_in};
 ghost use Rattle.trace.specs.Words.{all_have};
 
 use crate::headings::Heading;
@@ -46,5 +48,19 @@ impl View<'_> {
             }
         }
         true
+    }
+
+    /// How many of so many nodes, from `first` on, are faulty.
+    pub fn faults_in(&self, first: u32, many: u32) -> u32
+        requires within { first + many ≤ length self.now.config.now }
+        ensures { result ≡ faults_in first many (is_in self.now.faulty.now.ids) }
+    {
+        let mut faults = 0;
+        for i in 0..many {
+            if self.faulty.contains(first + i) {
+                faults += 1;
+            }
+        }
+        faults
     }
 }

@@ -1,4 +1,5 @@
 pub mod Traces
+pub mod Shares
 pub mod Strips
 pub mod TracePictures
 pub mod TraceSaid

@@ -1,4 +1,4 @@
--- The strips of a trace's levels, in SVG.
+-- The strips of a trace's levels or groups, in SVG.
 use Rattle.std.specs.Prelude.{ℕ, ◌+◌, ◌-◌, ◌*◌, ◌/◌, List, [], ◌∷◌, ◌++◌, Bool, true, false, Option}
 use Rattle.std.specs.Prelude.{Some, None, if◌then◌else◌, codes, decimal}
 use Rattle.std.specs.List.{concat}
@@ -9,6 +9,9 @@ use Rattle.trace_pictures.specs.declared.traces.Held.{Held}
 use Rattle.trace_pictures.specs.declared.traces.Held.TheVariants.{Unmarked, Marked, Locked}
 use Rattle.trace_pictures.specs.declared.traces.Turn.{Turn}
 use Rattle.trace_pictures.specs.declared.traces.Turn.TheVariants.{Keep, Mark, King}
+use Rattle.trace_pictures.specs.declared.traces.LeftSeen.{LeftSeen}
+use Rattle.trace_pictures.specs.declared.traces.StripName.{StripName}
+use Rattle.trace_pictures.specs.declared.traces.StripName.TheVariants as name
 use Rattle.trace_pictures.specs.declared.traces.Register.{Register}
 use Rattle.trace_pictures.specs.declared.traces.Seen.{Seen}
 use Rattle.trace_pictures.specs.declared.traces.Seen.TheVariants.{Shows, Holds}
@@ -19,7 +22,8 @@ use Rattle.picture_parts.specs.declared.frames.CellPosition.{CellPosition}
 use Rattle.picture_parts.specs.Frames.{band_top, configuration, left, middle, spot_top, width}
 use Rattle.picture_parts.specs.Squares.{column_head, cross, hover_front, node_label, number_text}
 use Rattle.picture_parts.specs.Squares.{rectangle_front, shown_at}
-use Rattle.trace_pictures.specs.Traces.{held_word, number_or_none, turn_word}
+use Rattle.trace_pictures.specs.Shares.{share_bar, arrow_if}
+use Rattle.trace_pictures.specs.Traces.{register_words, side_word, strip_words, turn_word}
 
 -- ---- registers
 
@@ -31,17 +35,9 @@ ground (Some value) Marked = codes "#b5d3f2'/>\n"
 ground (Some value) Locked = codes "#a6dba0'/>\n"
 
 -- what is said of a register when the pointer rests on it
-abbrev pub level_told : (level : ℕ) → List ℕ
-level_told level = concat (codes ", level " ∷ decimal level ∷ codes ": " ∷ [])
-
-abbrev pub held_told : Held → List ℕ
-held_told held = held_word held ++ codes "</title>\n"
-
 abbrev pub register_hover : CellPosition → (node : ℕ) → Register → List ℕ
 register_hover spot node register =
-    hover_front spot node
-    ++ (level_told register.level
-    ++ (number_or_none register.value ++ held_told register.held))
+    hover_front spot node ++ (codes ":" ++ (register_words register ++ codes "</title>\n"))
 
 -- what lies on it: nothing, dots, or a frame
 abbrev pub cover : CellPosition → Held → List ℕ
@@ -64,15 +60,33 @@ abbrev pub value_text : CellPosition → Option ℕ → List ℕ
 value_text spot (Some value) = number_text (middle spot) (spot_top spot + 13) value
 value_text spot None = cross spot
 
--- a register within its group
+-- a register within its cell
 abbrev pub register_in : CellPosition → Option ℕ → Held → List ℕ
 register_in spot value held =
     rectangle_front spot ++ (ground value held ++ (cover spot held ++ value_text spot value))
 
+-- one of a group that is not sound: how it holds its value says nothing there
+abbrev pub unsound_in : CellPosition → Option ℕ → List ℕ
+unsound_in spot value =
+    rectangle_front spot ++ (codes "gainsboro'/>\n" ++ value_text spot value)
+
+abbrev pub sound_in : CellPosition → Register → (is_sound : Bool) → List ℕ
+sound_in spot register true = register_in spot register.value register.held
+sound_in spot register false = unsound_in spot register.value
+
+-- one of a group, and below it what its node saw of the left half, and whom it follows
+abbrev pub member_in : CellPosition → Register → LeftSeen → List ℕ
+member_in spot register own =
+    sound_in spot register own.is_sound ++ (share_bar spot own ++ arrow_if spot register.heard)
+
+-- one of a level, or of a group
+abbrev pub cell_in : CellPosition → Register → Option LeftSeen → List ℕ
+cell_in spot register None = register_in spot register.value register.held
+cell_in spot register (Some own) = member_in spot register own
+
 abbrev pub register_at : CellPosition → (node : ℕ) → Register → List ℕ
 register_at spot node register =
-    register_hover spot node register
-    ++ (register_in spot register.value register.held ++ codes "</g>\n")
+    register_hover spot node register ++ (cell_in spot register register.own ++ codes "</g>\n")
 
 -- ---- lines of a trace
 
@@ -120,7 +134,7 @@ share width Keep = width / 3
 share width Mark = width * 2 / 3
 share width King = width
 
--- a frame, broken if not all hear it
+-- a frame, broken if not all obey it
 abbrev pub edge : Bool → List ℕ
 edge true = codes "z' fill='none' stroke='black'/>\n"
 edge false = codes "z' fill='none' stroke='black' stroke-dasharray='2'/>\n"
@@ -143,12 +157,16 @@ abbrev pub reign_box : CellPosition → KingPhase → List ℕ
 reign_box spot reign = gold_part spot (share (width spot) reign.turn) (edge reign.is_common)
 
 -- what is said of a phase when the pointer rests on it
+abbrev pub reign_front : CellPosition → List ℕ
+reign_front spot =
+    concat (codes "<g><title>configuration " ∷ decimal (configuration spot) ∷ codes "," ∷ [])
+
+abbrev pub reign_told : KingPhase → List ℕ
+reign_told reign = concat (
+    codes ":" ∷ turn_word reign.turn ∷ decimal reign.king ∷ codes "</title>\n" ∷ [])
+
 abbrev pub reign_hover : CellPosition → KingPhase → List ℕ
-reign_hover spot reign = concat (
-    codes "<g><title>configuration " ∷ decimal (configuration spot)
-    ∷ codes ", level " ∷ decimal reign.level
-    ∷ codes ":" ∷ turn_word reign.turn ∷ decimal reign.king
-    ∷ codes "</title>\n" ∷ [])
+reign_hover spot reign = reign_front spot ++ (strip_words reign.name ++ reign_told reign)
 
 -- the king, and the end of a group
 abbrev pub king_text : CellPosition → (king : ℕ) → List ℕ
@@ -175,12 +193,15 @@ reign_picture frame reign = reign_at (reign_spot frame reign) reign
 
 -- ---- the word before a strip
 
-abbrev pub title_at : (y level : ℕ) → List ℕ
-title_at y level = concat (
-    codes "<text x='26' y='" ∷ decimal y
-    ∷ codes "'>level " ∷ decimal level
-    ∷ codes "</text>\n" ∷ [])
+-- the name of a strip, of a group without its nodes, which stand beside its lines
+abbrev pub title_word : StripName → List ℕ
+title_word (name.Level level) = strip_words (name.Level level)
+title_word (name.Group group) = side_word group.side
+
+abbrev pub title_front : (y : ℕ) → List ℕ
+title_front y = concat (codes "<text x='26' y='" ∷ decimal y ∷ codes "'>" ∷ [])
 
 abbrev pub title_picture : Frame → Title → List ℕ
 title_picture frame title =
-    title_at (band_top frame.height title.column + title.top + 11) title.level
+    title_front (band_top frame.height title.column + title.top + 11)
+    ++ (title_word title.name ++ codes "</text>\n")

@@ -5,12 +5,15 @@ use Rattle.std.specs.Prelude.{All, AllPairs}
 use Rattle.std.specs.List.{count_by}
 use Rattle.std.specs.List.Sorted.{IsStrictlyIncreasing}
 use Rattle.trace_pictures.specs.declared.traces.Heard.{Heard}
+use Rattle.trace_pictures.specs.declared.traces.Register.{Register}
 use Rattle.trace_pictures.specs.declared.traces.Seen.{Seen}
 use Rattle.trace_pictures.specs.declared.traces.Seen.TheVariants.{Shows, Holds}
 use Rattle.trace_pictures.specs.declared.traces.Note.{Note}
 use Rattle.trace_pictures.specs.declared.traces.KingPhase.{KingPhase}
 use Rattle.trace_pictures.specs.declared.traces.Title.{Title}
 use Rattle.trace_pictures.specs.declared.traces.Level.{Level}
+use Rattle.trace_pictures.specs.declared.traces.StripName.{StripName}
+use Rattle.trace_pictures.specs.declared.traces.StripName.TheVariants as name
 use Rattle.trace_pictures.specs.declared.traces.Trace.{Trace}
 use Rattle.picture_parts.specs.Frames.{line_top}
 use Rattle.trace_pictures.specs.TraceSaid.{IsTraceSaid}
@@ -25,23 +28,36 @@ is_output (Holds register) = false
 abbrev pub shows : Note → Bool
 shows note = is_output note.seen
 
--- the strip of a level
-pub record IsStripOf (levels : List Level) (level : ℕ) (strip : Level) : Type 0 where
+-- how high a line of a strip is: below a cell of a group stands a bar
+abbrev pub line_height : StripName → ℕ
+line_height (name.Level level) = 18
+line_height (name.Group group) = 28
+
+-- the strip of that number and name
+pub record IsStripOf (levels : List Level) (level : ℕ) (name : StripName) (strip : Level) : Type 0
+    where
   pub place : ℕ
   pub inside : place < length levels
   pub is : (d : Level) → slice_index_or levels place d ≡ strip
   pub of_level : strip.level ≡ level
+  pub of_name : strip.name ≡ name
 
--- a register of the node of that place stands in the strip of its level
-pub record StandsInStrip (levels : List Level) (place top level : ℕ) : Type 0 where
+-- a cell of the node of that place stands in its line of a strip
+pub record IsInStrip (strip : Level) (place top : ℕ) : Type 0 where
+  pub from : strip.before ≤ place
+  pub within : place < strip.before + strip.members
+  pub height : top ≡ strip.cells + line_height strip.name * (place - strip.before)
+
+-- a register of the node of that place stands in its strip
+pub record StandsInStrip (levels : List Level) (place top : ℕ) (register : Register) : Type 0 where
   pub strip : Level
-  pub is : IsStripOf levels level strip
-  pub height : top ≡ strip.cells + 18 * place
+  pub is : IsStripOf levels register.level register.name strip
+  pub inside : IsInStrip strip place top
 
 -- an output stands in the line of its node above all strips
 abbrev pub IsAtHeight : List Level → (place top : ℕ) → Seen → Type 0
 IsAtHeight levels place top (Shows output) = top ≡ line_top place
-IsAtHeight levels place top (Holds register) = StandsInStrip levels place top register.level
+IsAtHeight levels place top (Holds register) = StandsInStrip levels place top register
 
 -- A line of a node, if so many outputs, `before`, were shown before that of its node: it is on the
 -- node that is due, and stands in the column of its configuration, and in the line of its node.
@@ -95,7 +111,7 @@ HasTurn reigns note = HasTurnIf reigns note.is_faulty note.column note.seen
 -- a phase stands above the cells of its level's strip
 pub record IsTurnLaid (levels : List Level) (reign : KingPhase) : Type 0 where
   pub strip : Level
-  pub is : IsStripOf levels reign.level strip
+  pub is : IsStripOf levels reign.level reign.name strip
   pub below : strip.top ≤ reign.top
   pub above : reign.top + 16 ≤ strip.cells
 
@@ -107,17 +123,17 @@ AreApart turn later =
 -- ---- levels
 
 -- Strips stand one below the other, from one height to another, in each a row of phases and a line
--- for each node; their levels rise.
-abbrev pub AreStacked : (nodes below from : ℕ) → List Level → (end : ℕ) → Type 0
-AreStacked nodes below from [] end = from ≤ end
-AreStacked nodes below from (strip ∷ strips) end =
+-- for each of its nodes; their numbers rise.
+abbrev pub AreStacked : (below from : ℕ) → List Level → (end : ℕ) → Type 0
+AreStacked below from [] end = from ≤ end
+AreStacked below from (strip ∷ strips) end =
     (below < strip.level) × (from ≤ strip.top) × (strip.top + 16 ≤ strip.cells)
-    × AreStacked nodes strip.level (strip.cells + 18 * nodes) strips end
+    × AreStacked strip.level (strip.cells + line_height strip.name * strip.members) strips end
 
 -- a word before a strip stands beside its phases, at the beginning of a band
 pub record IsTitleLaid (levels : List Level) (title : Title) : Type 0 where
   pub strip : Level
-  pub is : IsStripOf levels title.level strip
+  pub is : IsStripOf levels title.level title.name strip
   pub top : title.top ≡ strip.top
   pub front : title.column % 120 ≡ 0
 
@@ -137,6 +153,6 @@ pub record IsTraceLaid (trace : Trace) : Type 0 where
   pub turns : All (IsTurnLaid trace.levels.items) trace.reigns.items
   pub apart : AllPairs AreApart trace.reigns.items
   pub titles : All (IsTitleLaid trace.levels.items) trace.titles.items
-  pub strips : AreStacked trace.nodes 0 (line_top trace.nodes) trace.levels.items trace.cells
+  pub strips : AreStacked 0 (line_top trace.nodes) trace.levels.items trace.cells
   pub high : trace.cells ≤ trace.frame.height
   pub said : IsTraceSaid trace

@@ -1,10 +1,13 @@
 -- The picture of a trace, in SVG.
-use Rattle.std.specs.Prelude.{ℕ, ◌+◌, ◌*◌, length, List, [], ◌∷◌, ◌++◌, Option, Some, None, codes}
-use Rattle.std.specs.Prelude.{decimal}
+use Rattle.std.specs.Prelude.{ℕ, ◌+◌, ◌*◌, length, List, [], ◌∷◌, ◌++◌, Bool, true, false, Option}
+use Rattle.std.specs.Prelude.{Some, None, if◌then◌else◌, codes, decimal}
 use Rattle.std.specs.List.{concat, flat_map}
 use Rattle.picture_parts.specs.declared.frames.Frame.{Frame}
 use Rattle.trace_pictures.specs.declared.traces.Level.{Level}
 use Rattle.trace_pictures.specs.declared.traces.Trace.{Trace}
+use Rattle.trace_pictures.specs.declared.traces.StripName.{StripName}
+use Rattle.trace_pictures.specs.declared.traces.StripName.TheVariants as name
+use Rattle.trace_pictures.specs.Traces.{strip_words}
 use Rattle.picture_parts.specs.Frames.{bottom}
 use Rattle.picture_parts.specs.Captions.{colour_legend, number_caption, span_caption}
 use Rattle.picture_parts.specs.Marks.{mark_at}
@@ -27,21 +30,18 @@ abbrev pub blocks_words : Option ℕ → List ℕ
 blocks_words (Some blocks) = concat (codes " blocks " ∷ decimal blocks ∷ codes "</text>\n" ∷ [])
 blocks_words None = codes "</text>\n"
 
-abbrev pub level_front : (y level : ℕ) → List ℕ
-level_front y level = concat (
-    codes "<text text-anchor='start' x='4' y='" ∷ decimal y
-    ∷ codes "'>level " ∷ decimal level ∷ [])
+abbrev pub level_front : (y : ℕ) → List ℕ
+level_front y = concat (codes "<text text-anchor='start' x='4' y='" ∷ decimal y ∷ codes "'>" ∷ [])
 
 abbrev pub level_at : (y : ℕ) → Level → List ℕ
-level_at y level = level_front y level.level ++ blocks_words level.blocks
+level_at y level = level_front y ++ (strip_words level.name ++ blocks_words level.blocks)
 
 abbrev pub level_caption : Frame → Level → List ℕ
 level_caption frame level = level_at (bottom frame + 44 + 16 * level.place) level
 
--- what the registers and the kings' phases mean, from that height on, with how nodes get a phase:
--- they hear it, or have it
-abbrev pub legend : (y : ℕ) → (verb : List ℕ) → List ℕ
-legend y verb = concat (
+-- what the registers and the kings' phases mean, from that height on
+abbrev pub legend : (y : ℕ) → List ℕ
+legend y = concat (
     codes "<g text-anchor='start' transform='translate(4," ∷ decimal y
     ∷ codes ")'>\n<rect width='18' height='18' fill='whitesmoke'/>"
     ∷ codes "<path d='M6 6l6 6m0 -6l-6 6' stroke='dimgray'/><text x='24' y='13'>no value</text>\n"
@@ -63,7 +63,39 @@ legend y verb = concat (
     ∷ codes " fill='none' stroke='black'/>"
     ∷ codes "<text x='60' y='79'>a king's turn: keep, mark, king</text>\n"
     ∷ codes "<path d='M0 88h18v14H0z' fill='none' stroke='black' stroke-dasharray='2'/>"
-    ∷ codes "<text x='24' y='99'>a turn that not all " ∷ verb ∷ codes "</text>\n</g>\n" ∷ [])
+    ∷ codes "<text x='24' y='99'>a turn that not all obey</text>\n</g>\n" ∷ [])
+
+-- what is drawn of groups
+abbrev pub group_legend : (y : ℕ) → List ℕ
+group_legend y = concat (
+    codes "<g text-anchor='start' transform='translate(4," ∷ decimal y
+    ∷ codes ")'>\n<rect width='18' height='18' fill='gainsboro'/>"
+    ∷ codes "<text x='42' y='13'>in a group with too many liars</text>\n"
+    ∷ codes "<path d='M0 24h18v8H0z' fill='#c6dbef'/><path d='M18 24h18v8H18z' fill='#4292c6'/>"
+    ∷ codes "<text x='42' y='32'>the left half's share; trusted</text>\n"
+    ∷ codes "<path d='M0 38h18v8H0z' fill='#fdd0a2'/><path d='M18 38h18v8H18z' fill='#f16913'/>"
+    ∷ codes "<text x='42' y='46'>the right half's share; trusted</text>\n"
+    ∷ codes "<path d='M12 54v4l-6 -2zM24 54v4l6 -2z' stroke='black'/>"
+    ∷ codes "<text x='42' y='60'>follows the left, the right half</text>\n"
+    ∷ codes "<path d='M12 68v4l-6 -2zM24 68v4l6 -2z' fill='white' stroke='black'/>"
+    ∷ codes "<text x='42' y='74'>what it saw is not backed</text>\n</g>\n" ∷ [])
+
+-- whether strips are those of groups
+abbrev pub is_group : StripName → Bool
+is_group (name.Level level) = false
+is_group (name.Group group) = true
+
+abbrev pub are_groups : List Level → Bool
+are_groups [] = false
+are_groups (level ∷ levels) = is_group level.name
+
+-- how high what is said of groups is
+abbrev pub group_height : (groups : Bool) → ℕ
+group_height true = 86
+group_height false = 0
+
+abbrev pub group_legend_if : (groups : Bool) (y : ℕ) → List ℕ
+group_legend_if groups y = if groups then group_legend y else []
 
 -- what the picture is of: configurations and nodes
 abbrev pub trace_facts : Trace → List ℕ
@@ -75,19 +107,22 @@ trace_facts trace =
 abbrev pub trace_front : Trace → List ℕ
 trace_front trace =
     picture_front (picture_width trace.frame)
-    (bottom trace.frame + 168 + 16 * length trace.levels.items)
+    (bottom trace.frame + 168 + 16 * length trace.levels.items
+    + group_height (are_groups trace.levels.items))
 
--- what the colours and the cells mean, below the captions of so many levels
-abbrev pub legend_below : Frame → (levels : ℕ) → List ℕ
+-- what the colours and the cells mean, below the captions of these strips
+abbrev pub legend_below : Frame → List Level → List ℕ
 legend_below frame levels =
-    colour_legend (bottom frame + 40 + 16 * levels)
-    ++ legend (bottom frame + 62 + 16 * levels) (codes "hear")
+    let lines = 16 * length levels in
+    colour_legend (bottom frame + 40 + lines)
+    ++ (legend (bottom frame + 62 + lines)
+    ++ group_legend_if (are_groups levels) (bottom frame + 172 + lines))
 
--- the captions of the levels, and what the cells mean
+-- the captions of the strips, and what the cells mean
 abbrev pub trace_captions : Trace → List ℕ
 trace_captions trace =
     flat_map (level_caption trace.frame) trace.levels.items
-    ++ legend_below trace.frame (length trace.levels.items)
+    ++ legend_below trace.frame trace.levels.items
 
 -- all that is within the bands
 abbrev pub bands : Trace → List ℕ

@@ -4,7 +4,11 @@ use Rattle.std.specs.Prelude.{◌≡◌, ℕ, ◌+◌, ◌<◌, ◌≤◌, ◌==
 use Rattle.std.specs.Prelude.{drop, Bool, true, false, Option, Some, None, slice_index_or, All}
 use Rattle.std.specs.Prelude.{if◌then◌else◌}
 use Rattle.std.specs.List.{range_with_len}
+use Rattle.trace_pictures.specs.declared.traces.Basis.{Basis}
+use Rattle.trace_pictures.specs.declared.traces.Basis.TheVariants.{Votes, Follows}
 use Rattle.trace_pictures.specs.declared.traces.Heard.{Heard}
+use Rattle.trace_pictures.specs.declared.traces.StripName.{StripName}
+use Rattle.trace_pictures.specs.declared.traces.StripName.TheVariants as name
 use Rattle.trace_pictures.specs.declared.traces.Turn.{Turn}
 use Rattle.trace_pictures.specs.declared.traces.Turn.TheVariants.{Keep, Mark, King}
 use Rattle.trace_pictures.specs.declared.traces.Seen.{Seen}
@@ -25,14 +29,21 @@ output_in (Holds register) = None
 abbrev pub output_said : Note → Option ℕ
 output_said note = output_in note.seen
 
+-- a register comes, and after it others, if there are any: levels come before those above them, and
+-- groups after those in which they are
+abbrev pub value_above : StripName → (value : Option ℕ) → (later : Option (Option ℕ))
+    → Option (Option ℕ)
+value_above (name.Level level) value (Some later) = Some later
+value_above (name.Level level) value None = Some value
+value_above (name.Group group) value later = Some value
+
 -- a register comes, and after it these lines
 abbrev pub value_before : Seen → (later : Option (Option ℕ)) → Option (Option ℕ)
 value_before (Shows shown) later = None
-value_before (Holds register) None = Some register.value
-value_before (Holds register) (Some value) = Some value
+value_before (Holds register) later = value_above register.name register.value later
 
--- what the last register of these lines holds, up to the next output, if there is one: lines on a
--- node end with its register at the top level
+-- What that register of these lines holds by which the node shows its output, up to the next output,
+-- if there is one: the last one of levels, and the first one of groups.
 abbrev pub top_value : List Note → Option (Option ℕ)
 top_value [] = None
 top_value (note ∷ notes) = value_before note.seen (top_value notes)
@@ -122,10 +133,15 @@ pub record IsTurnSaid (notes : List Note) (reign : KingPhase) : Type 0 where
 
 -- ---- levels
 
+-- of how many blocks a node hears votes, if it has its instruction by these
+abbrev pub votes_by : Basis → Option ℕ
+votes_by (Votes beat) = Some (length beat.votes.items)
+votes_by (Follows following) = None
+
 -- of how many blocks a line hears votes at a level, if it does
 abbrev pub votes_heard : Option Heard → Option ℕ
 votes_heard None = None
-votes_heard (Some heard) = Some (length heard.votes.items)
+votes_heard (Some heard) = votes_by heard.basis
 
 abbrev pub votes_in : (level : ℕ) → Seen → Option ℕ
 votes_in level (Shows shown) = None

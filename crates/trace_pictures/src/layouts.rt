@@ -1,18 +1,24 @@
-//! Lays out a trace: below the outputs a strip for each level, with the kings' phases above it.
+//! Lays out a trace: below the outputs a strip for each level or group, with the kings' phases above
+//! it.
 
-use crate::trace_reading::MOST_LEVELS;
-use crate::traces::{Heard, KingPhase, Level, Note, Register, Seen, Title, Trace};
+use crate::trace_reading::MOST_STRIPS;
+use crate::traces::{Basis, Heard, KingPhase, Level, Note, Register, Seen, StripName, Title, Trace};
+use crate::trace_laid::line_height;
 use picture_parts::{ChartError, MOST_COLUMNS, line_top};
 use std::alloc::{AllocFailed, Global};
 
-/// How many strips there may be, with one for no level.
-const STRIPS: usize = MOST_LEVELS as usize + 1;
+/// How many strips there may be, with one that no line has.
+const STRIPS: usize = MOST_STRIPS as usize + 1;
 
-/// What is known of a level's strip.
+/// What is known of a strip.
 #[derive(Clone, Copy)]
 struct Strip {
-    /// Whether some node takes part in the level.
-    is_there: bool,
+    /// What it is of, if some line has it.
+    name: Option<StripName>,
+    /// How many nodes of the trace stand before its first one.
+    before: u16,
+    /// For how many nodes it has a line.
+    members: u16,
     /// How many kings' phases stand in one column at most.
     lanes: u32,
     /// How many blocks vote.
@@ -23,11 +29,12 @@ struct Strip {
     cells: u32,
 }
 
-/// A phase that a node hears.
-fn reign_of(column: u32, level: u64, heard: &Heard) -> KingPhase {
+/// A phase that a node obeys.
+fn reign_of(column: u32, register: &Register, heard: &Heard) -> KingPhase {
     KingPhase {
         column,
-        level,
+        level: register.level,
+        name: register.name,
         king: heard.king,
         turn: heard.turn,
         lane: 0,
@@ -37,7 +44,7 @@ fn reign_of(column: u32, level: u64, heard: &Heard) -> KingPhase {
 }
 
 /// Adds a phase to those of its column, which stand from place `from` on, if it is not there.
-/// Answers how many of its level there are then, or 0 if it was there.
+/// Answers how many of its strip there are then, or 0 if it was there.
 fn add_reign(
     reigns: &mut Vec<KingPhase>,
     from: usize,
@@ -64,7 +71,34 @@ fn add_reign(
     Ok(new.lane.saturating_add(1))
 }
 
-/// Takes what a node hears at a level, if it does.
+/// Of how many blocks a node hears votes, if it does.
+fn blocks_of(heard: &Heard) -> Option<u64> {
+    match &heard.basis {
+        Basis::Votes(beat) => Some(beat.votes.len() as u64),
+        Basis::Follows(_) => None,
+    }
+}
+
+/// Takes into a strip the node at a place. The strip of a level has a line for each node of the
+/// trace, that of a group one for each from its first one on to its last one.
+fn take_member(strip: &mut Strip, name: StripName, place: u16, nodes: u16) {
+    match name {
+        StripName::Level(_) => {
+            strip.before = 0;
+            strip.members = nodes;
+        }
+        StripName::Group(_) => {
+            if strip.name.is_none() {
+                strip.before = place;
+            }
+            let members = place.saturating_sub(strip.before).saturating_add(1);
+            strip.members = strip.members.max(members);
+        }
+    }
+    strip.name = Some(name);
+}
+
+/// Takes what a node hears, if it does.
 fn take_register(
     reigns: &mut Vec<KingPhase>,
     from: usize,
@@ -72,11 +106,10 @@ fn take_register(
     note: &Note,
     register: &Register,
 ) -> Result<(), AllocFailed<KingPhase>> {
-    strip.is_there = true;
     if let Some(heard) = &register.heard {
-        strip.blocks = Some(heard.votes.len() as u64);
+        strip.blocks = blocks_of(heard);
         if !note.is_faulty {
-            let reign = reign_of(note.column, register.level, heard);
+            let reign = reign_of(note.column, register, heard);
             let lanes = add_reign(reigns, from, reign)?;
             strip.lanes = strip.lanes.max(lanes);
         }
@@ -84,36 +117,45 @@ fn take_register(
     Ok(())
 }
 
-/// Finds the kings' phases that correct nodes hear, and what is known of each strip.
+/// Finds the kings' phases that correct nodes obey, and what is known of each strip.
 fn find_reigns(trace: &mut Trace, strips: &mut [Strip]) -> Result<(), ChartError> {
     let mut from = 0;
+    let mut place = 0;
     for note in trace.notes.iter() {
         if note.is_first {
             from = trace.reigns.len();
         }
-        if let Seen::Holds(register) = &note.seen {
-            if let Some(strip) = strips.get_mut(register.level as usize) {
-                take_register(&mut trace.reigns, from, strip, note, register)?;
+        match &note.seen {
+            Seen::Shows(_) => {
+                place = if note.is_first { 0 } else { next_place(place) };
+            }
+            Seen::Holds(register) => {
+                if let Some(strip) = strips.get_mut(register.level as usize) {
+                    take_member(strip, register.name, place, trace.nodes);
+                    take_register(&mut trace.reigns, from, strip, note, register)?;
+                }
             }
         }
     }
     Ok(())
 }
 
-/// How high the lines of so many nodes are.
-fn lines_height(nodes: u16) -> u32 {
-    18 * u32::from(nodes)
+/// How high the lines of so many nodes are in a strip.
+fn lines_height(name: StripName, nodes: u16) -> u32 {
+    (line_height(name) as u32).saturating_mul(u32::from(nodes))
 }
 
 /// Gives each strip its place below those before it. Answers where the last one ends.
 fn stack(strips: &mut [Strip], nodes: u16) -> u32 {
     let mut y = line_top(nodes);
     for strip in strips.iter_mut() {
-        if strip.is_there {
+        if let Some(name) = strip.name {
             strip.top = y.saturating_add(8);
             let lanes = strip.lanes.max(1).saturating_mul(16);
             strip.cells = strip.top.saturating_add(lanes).saturating_add(2);
-            y = strip.cells.saturating_add(lines_height(nodes));
+            y = strip
+                .cells
+                .saturating_add(lines_height(name, strip.members));
         }
     }
     y
@@ -130,7 +172,10 @@ fn place_all(trace: &mut Trace, strips: &[Strip]) {
             }
             Seen::Holds(register) => {
                 if let Some(strip) = strips.get(register.level as usize) {
-                    note.top = strip.cells.saturating_add(lines_height(place));
+                    let line = place.saturating_sub(strip.before);
+                    note.top = strip
+                        .cells
+                        .saturating_add(lines_height(register.name, line));
                 }
             }
         }
@@ -148,7 +193,12 @@ fn next_place(place: u16) -> u16 {
 }
 
 /// Adds the words before a strip, one in each band, and its line in the caption.
-fn add_words(trace: &mut Trace, level: u64, strip: Strip) -> Result<(), ChartError> {
+fn add_words(
+    trace: &mut Trace,
+    level: u64,
+    name: StripName,
+    strip: Strip,
+) -> Result<(), ChartError> {
     let mut column = 0;
     for _ in 0..trace.frame.columns {
         if column >= trace.frame.columns {
@@ -158,6 +208,7 @@ fn add_words(trace: &mut Trace, level: u64, strip: Strip) -> Result<(), ChartErr
             column,
             top: strip.top,
             level,
+            name,
         })?;
         column = column.saturating_add(MOST_COLUMNS);
     }
@@ -165,6 +216,9 @@ fn add_words(trace: &mut Trace, level: u64, strip: Strip) -> Result<(), ChartErr
     trace.levels.push(Level {
         place,
         level,
+        name,
+        before: strip.before,
+        members: strip.members,
         blocks: strip.blocks,
         top: strip.top,
         cells: strip.cells,
@@ -175,7 +229,9 @@ fn add_words(trace: &mut Trace, level: u64, strip: Strip) -> Result<(), ChartErr
 /// Lays out a trace.
 pub fn lay_out(trace: &mut Trace) -> Result<(), ChartError> {
     let mut strips = [Strip {
-        is_there: false,
+        name: None,
+        before: 0,
+        members: 0,
         lanes: 0,
         blocks: None,
         top: 0,
@@ -186,8 +242,8 @@ pub fn lay_out(trace: &mut Trace) -> Result<(), ChartError> {
     trace.frame.height = trace.cells.saturating_add(24);
     place_all(trace, &strips);
     for level in 0..STRIPS {
-        if strips[level].is_there {
-            add_words(trace, level as u64, strips[level])?;
+        if let Some(name) = strips[level].name {
+            add_words(trace, level as u64, name, strips[level])?;
         }
     }
     Ok(())

@@ -1,5 +1,6 @@
 //! Pictures, in SVG, of what `trace` writes: a column for each configuration, a line of cells for
-//! each node, and a strip for each level, with the kings' phases above it.
+//! each node, and a strip for each level of a boosting plan or each group of a halving plan, with
+//! the kings' phases above it.
 //!
 //! That the picture is the defined one of a trace is proved ([`Trace`] is a figure), that its lines
 //! stand in their columns, lines and strips, and that just the kings' phases are there which
@@ -10,6 +11,7 @@
 mod drawn;
 mod hits;
 mod layouts;
+mod shares;
 mod strips;
 mod trace_laid;
 mod trace_lines;
@@ -21,15 +23,6 @@ mod traces;
 mod turns;
 mod turns_said;
 
-// What the picture of a trace of another construction has in common with this one.
 pub use drawn::trace_of;
-pub use hits::add_era;
-pub use strips::{face_in, put_register_in};
-pub use trace_laid::{has_id, ids_rise};
-pub use trace_lines::{Front, Reader, TraceFault};
-pub use trace_pictures::{put_dots, put_legend, put_starts};
-pub use trace_printing::{faulty_word, held_word, put_number_or_none, put_output, turn_word};
-pub use trace_reading::{MOST_NODES, is_trace, length_of};
-pub use traces::{Held, Output, Trace, Turn};
-pub use turns::{edge, put_gold_part, put_king, share};
-pub use turns_said::is_same_turn;
+pub use trace_reading::is_trace;
+pub use traces::Trace;

@@ -3,12 +3,14 @@
 ghost use Rattle.std.specs.Prelude.{◌≡◌};
 ghost use Rattle.std.specs.List.{flat_map};
 ghost use Rattle.edge_io.specs.Writing.{Writes};
-ghost use Rattle.trace_pictures.specs.Strips.{cover, face_in, ground, held_cell, note_head};
-ghost use Rattle.trace_pictures.specs.Strips.{note_picture, register_at, register_in, seen_cell};
-ghost use Rattle.trace_pictures.specs.Strips.{title_picture, value_text};
+ghost use Rattle.trace_pictures.specs.Strips.{cell_in, cover, face_in, ground, held_cell};
+ghost use Rattle.trace_pictures.specs.Strips.{member_in, note_head, note_picture, register_at};
+ghost use Rattle.trace_pictures.specs.Strips.{register_in, seen_cell, sound_in, title_picture};
+ghost use Rattle.trace_pictures.specs.Strips.{title_word, unsound_in, value_text};
 
-use crate::trace_printing::{held_word, put_number_or_none};
-use crate::traces::{Held, Note, Register, Seen, Title};
+use crate::shares::{put_arrow_if, put_share};
+use crate::trace_printing::{put_register, put_strip, side_word};
+use crate::traces::{Held, LeftSeen, Note, Register, Seen, StripName, Title};
 use edge_io::{Piece, Sink, Writer};
 use picture_parts::{
     CellPosition, Face, Frame, band_top, left, middle, put_column_head, put_cross, put_hover_front,
@@ -73,8 +75,17 @@ fn put_value<K: Sink>(writer: &mut Writer<'_, K>, spot: CellPosition, value: Opt
     }
 }
 
-/// Draws a register within its group.
-pub fn put_register_in<K: Sink>(
+/// Draws a register of a group that is not sound: how it holds its value says nothing there.
+fn put_unsound_in<K: Sink>(writer: &mut Writer<'_, K>, spot: CellPosition, value: Option<u64>)
+    ensures { Writes K.told (unsound_in spot value) writer.old writer.new }
+{
+    put_rectangle(writer, spot);
+    writer.text(b"gainsboro'/>\n");
+    put_value(writer, spot, value);
+}
+
+/// Draws a register within its cell.
+fn put_register_in<K: Sink>(
     writer: &mut Writer<'_, K>,
     spot: CellPosition,
     value: Option<u64>,
@@ -88,6 +99,45 @@ pub fn put_register_in<K: Sink>(
     put_value(writer, spot, value);
 }
 
+/// Draws a register of a group, by whether that is sound.
+fn put_sound_in<K: Sink>(
+    writer: &mut Writer<'_, K>,
+    spot: CellPosition,
+    register: &Register,
+    is_sound: bool,
+)
+    ensures { Writes K.told (sound_in spot register.now is_sound) writer.old writer.new }
+{
+    match is_sound {
+        true => put_register_in(writer, spot, register.value, register.held),
+        false => put_unsound_in(writer, spot, register.value),
+    }
+}
+
+/// Draws a register of a group, and below it what its node saw of the left half, and whom it follows.
+fn put_member_in<K: Sink>(
+    writer: &mut Writer<'_, K>,
+    spot: CellPosition,
+    register: &Register,
+    own: LeftSeen,
+)
+    ensures { Writes K.told (member_in spot register.now own) writer.old writer.new }
+{
+    put_sound_in(writer, spot, register, own.is_sound);
+    put_share(writer, spot, own);
+    put_arrow_if(writer, spot, &register.heard);
+}
+
+/// Draws a register, of a level or of a group.
+fn put_cell_in<K: Sink>(writer: &mut Writer<'_, K>, spot: CellPosition, register: &Register)
+    ensures { Writes K.told (cell_in spot register.now register.now.own) writer.old writer.new }
+{
+    match register.own {
+        None => put_register_in(writer, spot, register.value, register.held),
+        Some(own) => put_member_in(writer, spot, register, own),
+    }
+}
+
 /// Draws a register, with what is said of it when the pointer rests on it.
 fn put_register_at<K: Sink>(
     writer: &mut Writer<'_, K>,
@@ -98,21 +148,16 @@ fn put_register_at<K: Sink>(
     ensures { Writes K.told (register_at spot node register.now) writer.old writer.new }
 {
     put_hover_front(writer, spot, node);
-    writer.pieces(&[
-        Piece::Text(b", level "),
-        Piece::Number(register.level),
-        Piece::Text(b": "),
-    ]);
-    put_number_or_none(writer, register.value);
-    writer.text(held_word(register.held));
+    writer.text(b":");
+    put_register(writer, register);
     writer.text(b"</title>\n");
-    put_register_in(writer, spot, register.value, register.held);
+    put_cell_in(writer, spot, register);
     writer.text(b"</g>\n");
 }
 
 /// What is drawn of an output: that of a faulty node counts for nothing, and if a node has no value
 /// it shows none.
-pub fn face_in(is_faulty: bool, is_lost: bool, output: u64) -> Face
+fn face_in(is_faulty: bool, is_lost: bool, output: u64) -> Face
     ensures { result ≡ face_in is_faulty is_lost output }
 {
     match (is_faulty, is_lost) {
@@ -188,6 +233,16 @@ pub fn put_note_pictures<K: Sink>(writer: &mut Writer<'_, K>, frame: Frame, note
     }
 }
 
+/// Writes the name of a strip, of a group without its nodes, which stand beside its lines.
+fn put_title_word<K: Sink>(writer: &mut Writer<'_, K>, name: StripName)
+    ensures { Writes K.told (title_word name) writer.old writer.new }
+{
+    match name {
+        StripName::Level(_) => put_strip(writer, name),
+        StripName::Group(group) => writer.text(side_word(group.side)),
+    }
+}
+
 /// Writes the word before a strip.
 fn put_title<K: Sink>(writer: &mut Writer<'_, K>, frame: Frame, title: Title)
     ensures { Writes K.told (title_picture frame title) writer.old writer.new }
@@ -195,10 +250,10 @@ fn put_title<K: Sink>(writer: &mut Writer<'_, K>, frame: Frame, title: Title)
     writer.pieces(&[
         Piece::Text(b"<text x='26' y='"),
         Piece::Number(band_top(frame.height, title.column) + u64::from(title.top) + 11),
-        Piece::Text(b"'>level "),
-        Piece::Number(title.level),
-        Piece::Text(b"</text>\n"),
+        Piece::Text(b"'>"),
     ]);
+    put_title_word(writer, title.name);
+    writer.text(b"</text>\n");
 }
 
 /// Writes the words before all strips.

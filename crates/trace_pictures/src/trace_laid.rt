@@ -6,12 +6,13 @@ ghost use Rattle.trace_pictures.specs.declared.traces.KingPhase.{KingPhase};
 ghost use Rattle.std.specs.List.{count_by};
 ghost use Rattle.std.specs.List.Sorted.{IsStrictlyIncreasing};
 ghost use Rattle.trace_pictures.specs.TraceLaid.{AreApart, AreLinesLaid, AreStacked, HasTurn};
-ghost use Rattle.trace_pictures.specs.TraceLaid.{HasTurnOf, IsAtHeight, IsNoteLaid, IsStripOf};
+ghost use Rattle.trace_pictures.specs.TraceLaid.{HasTurnOf, IsAtHeight, IsInStrip, IsNoteLaid};
+ghost use Rattle.trace_pictures.specs.TraceLaid.{IsStripOf};
 ghost use Rattle.trace_pictures.specs.TraceLaid.{IsTitleLaid, IsTraceLaid, IsTurnLaid, IsTurnOf};
-ghost use Rattle.trace_pictures.specs.TraceLaid.{shows};
+ghost use Rattle.trace_pictures.specs.TraceLaid.{line_height, shows};
 
 use crate::trace_said::is_trace_said;
-use crate::traces::{Heard, KingPhase, Level, Note, Seen, Title, Trace};
+use crate::traces::{Heard, KingPhase, Level, Note, Seen, StripName, Title, Trace};
 use picture_parts::{MOST_COLUMNS, line_top};
 
 /// Whether a line says what its node shows.
@@ -24,11 +25,35 @@ fn shows(note: &Note) -> bool
     }
 }
 
-/// The strip of a level.
-fn strip_of(levels: &[Level], level: u64) -> Option<Level>
-    ensures { IfSome result (IsStripOf levels.now level) }
+/// How high a line of a strip is: below a cell of a group stands a bar.
+pub fn line_height(name: StripName) -> u64
+    ensures { result ≡ line_height name }
 {
-    levels.iter().copied().find(|strip| strip.level == level)
+    match name {
+        StripName::Level(_) => 18,
+        StripName::Group(_) => 28,
+    }
+}
+
+/// The strip of that number and name.
+fn strip_of(levels: &[Level], level: u64, name: StripName) -> Option<Level>
+    ensures { IfSome result (IsStripOf levels.now level name) }
+{
+    levels
+        .iter()
+        .copied()
+        .find(|strip| strip.level == level && strip.name == name)
+}
+
+/// Whether a cell of a strip stands at the height of a node, of which so many stand above.
+fn is_in_strip(strip: Level, place: u64, top: u32) -> bool
+    requires { place < 2 ^ 16 }
+    ensures { result ≡ true → IsInStrip strip place top }
+{
+    let before = u64::from(strip.before);
+    before <= place
+        && place < before + u64::from(strip.members)
+        && u64::from(top) == u64::from(strip.cells) + line_height(strip.name) * (place - before)
 }
 
 /// Whether a line stands at the height of its node, of which so many stand above.
@@ -36,11 +61,10 @@ fn is_at_height(levels: &[Level], place: u64, note: &Note) -> bool
     requires { place < 2 ^ 16 }
     ensures { result ≡ true → IsAtHeight levels.now place note.now.top note.now.seen }
 {
-    let top = u64::from(note.top);
     match &note.seen {
-        Seen::Shows(_) => top == 30 + 18 * place,
-        Seen::Holds(register) => match strip_of(levels, register.level) {
-            Some(strip) => top == u64::from(strip.cells) + 18 * place,
+        Seen::Shows(_) => u64::from(note.top) == 30 + 18 * place,
+        Seen::Holds(register) => match strip_of(levels, register.level, register.name) {
+            Some(strip) => is_in_strip(strip, place, note.top),
             None => false,
         },
     }
@@ -163,7 +187,7 @@ fn have_turns(reigns: &[KingPhase], notes: &[Note]) -> bool
 fn is_turn_laid(levels: &[Level], reign: KingPhase) -> bool
     ensures { result ≡ true → IsTurnLaid levels.now reign }
 {
-    match strip_of(levels, reign.level) {
+    match strip_of(levels, reign.level, reign.name) {
         Some(strip) => {
             strip.top <= reign.top && u64::from(reign.top) + 16 <= u64::from(strip.cells)
         }
@@ -227,7 +251,7 @@ fn are_apart(reigns: &[KingPhase]) -> bool
 fn is_title_laid(levels: &[Level], title: Title) -> bool
     ensures { result ≡ true → IsTitleLaid levels.now title }
 {
-    match strip_of(levels, title.level) {
+    match strip_of(levels, title.level, title.name) {
         Some(strip) => title.top == strip.top && title.column % MOST_COLUMNS == 0,
         None => false,
     }
@@ -241,8 +265,8 @@ fn are_titles_laid(levels: &[Level], titles: &[Title]) -> bool
 }
 
 /// Whether strips stand one below the other, from one height to another.
-fn are_stacked(nodes: u16, below: u64, from: u64, levels: &[Level], end: u32) -> bool
-    ensures { result ≡ true → AreStacked nodes below from levels.now end }
+fn are_stacked(below: u64, from: u64, levels: &[Level], end: u32) -> bool
+    ensures { result ≡ true → AreStacked below from levels.now end }
 {
     match levels {
         [] => from <= u64::from(end),
@@ -251,9 +275,8 @@ fn are_stacked(nodes: u16, below: u64, from: u64, levels: &[Level], end: u32) ->
                 && from <= u64::from(strip.top)
                 && u64::from(strip.top) + 16 <= u64::from(strip.cells)
                 && are_stacked(
-                    nodes,
                     strip.level,
-                    u64::from(strip.cells) + 18 * u64::from(nodes),
+                    u64::from(strip.cells) + line_height(strip.name) * u64::from(strip.members),
                     strips,
                     end,
                 )
@@ -292,5 +315,5 @@ pub fn is_trace_laid(trace: &Trace) -> bool
         return false;
     }
     let from = u64::from(line_top(trace.nodes));
-    are_stacked(trace.nodes, 0, from, &trace.levels, trace.cells)
+    are_stacked(0, from, &trace.levels, trace.cells)
 }

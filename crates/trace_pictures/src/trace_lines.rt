@@ -1,14 +1,20 @@
 //! Reads a line that `trace` writes.
 
-use crate::traces::{Heard, Held, Note, Output, Register, Seen, Turn};
+use crate::traces::{Basis, Beat, Following, Group, Half, Heard, Held, LeftSeen, Note, Output};
+use crate::traces::{Register, Seen, Side, StripName, Turn};
 use edge_io::{Words, number};
 use picture_parts::{next_is, next_number};
 use std::alloc::{AllocFailed, Global};
+use thiserror::Error;
 
 /// Why a line of a trace is not taken.
-#[derive(Clone, Copy)]
+#[derive(Clone, Copy, Debug, Error)]
 pub enum TraceFault {
+    /// It is no line of a trace.
+    #[error("no line of a trace")]
     Unwanted,
+    /// Memory was refused.
+    #[error("out of memory")]
     NoMemory,
 }
 
@@ -215,38 +221,113 @@ impl<'a> Reader<'a> {
         votes
     }
 
-    /// What a node hears, after the word `votes`.
-    fn heard(&mut self, alloc: Global) -> Heard {
-        Heard {
-            votes: self.votes(alloc),
-            lead: self.number(),
-            position: self.number_after(b"position"),
-            turn: self.turn(),
-            king: self.number_after(b"king"),
-            same: self.number_after(b"same"),
-            least: self.number_or_none_after(b"least"),
+    /// Whether the next word is the one and not the other, one of which must stand there.
+    fn choice(&mut self, one: &[u8], other: &[u8]) -> bool {
+        let word = self.word();
+        let is_one = word == one;
+        self.want(is_one || word == other);
+        is_one
+    }
+
+    /// One half of a group.
+    fn half(&mut self) -> Half {
+        if self.choice(b"left", b"right") {
+            Half::Left
+        } else {
+            Half::Right
         }
     }
 
-    /// What a node hears, if the line goes on.
+    /// By what a node has its instruction, after the first word of that.
+    fn basis(&mut self, alloc: Global, word: &[u8]) -> Basis {
+        if word == b"saw".as_slice() {
+            let saw = self.number();
+            let is_backed = self.choice(b"backed", b"unbacked");
+            self.pass(b"follows");
+            return Basis::Follows(Following {
+                saw,
+                is_backed,
+                half: self.half(),
+                instruction: self.number_after(b"instruction"),
+            });
+        }
+        self.want(word == b"votes".as_slice());
+        Basis::Votes(Beat {
+            votes: self.votes(alloc),
+            lead: self.number(),
+            position: self.number_after(b"position"),
+        })
+    }
+
+    /// What a node makes of what it hears, if the line goes on.
     fn heard_or_nothing(&mut self, alloc: Global) -> Option<Heard> {
         match self.words.next() {
-            Some(word) => {
-                self.want(word == b"votes".as_slice());
-                Some(self.heard(alloc))
-            }
+            Some(word) => Some(Heard {
+                basis: self.basis(alloc, word),
+                turn: self.turn(),
+                king: self.number_after(b"king"),
+                same: self.number_after(b"same"),
+                least: self.number_or_none_after(b"least"),
+            }),
             None => None,
         }
     }
 
-    /// A register, after the word `level`.
-    fn register(&mut self, alloc: Global) -> Register {
+    /// What a node of a group holds besides its register, if the strip is that of a group.
+    fn own(&mut self, name: StripName) -> Option<LeftSeen> {
+        match name {
+            StripName::Level(_) => None,
+            StripName::Group(_) => {
+                let is_sound = self.choice(b"sound", b"unsound");
+                let seen = self.number_after(b"seen");
+                let is_trusted = self.choice(b"trusted", b"untrusted");
+                self.pass(b"share");
+                Some(LeftSeen {
+                    is_sound,
+                    seen,
+                    is_trusted,
+                    share: self.half(),
+                })
+            }
+        }
+    }
+
+    /// A register, after the name of its strip, which has no number yet.
+    fn register(&mut self, alloc: Global, name: StripName) -> Register {
         Register {
-            level: self.number(),
+            level: 0,
+            name,
             value: self.number_or_none_after(b"value"),
             held: self.held(),
+            own: self.own(name),
             heard: self.heard_or_nothing(alloc),
         }
+    }
+
+    /// A group, after its first word.
+    fn group(&mut self, side: Side) -> Option<StripName> {
+        Some(StripName::Group(Group {
+            side,
+            first: self.number(),
+            last: self.number(),
+        }))
+    }
+
+    /// The name of a strip, of which this is the first word, if it is one.
+    fn strip(&mut self, word: &[u8]) -> Option<StripName> {
+        if word == b"level".as_slice() {
+            return Some(StripName::Level(self.number()));
+        }
+        if word == b"whole".as_slice() {
+            return self.group(Side::Whole);
+        }
+        if word == b"left".as_slice() {
+            return self.group(Side::Left);
+        }
+        if word == b"right".as_slice() {
+            return self.group(Side::Right);
+        }
+        None
     }
 
     /// What a node shows, after the word `number`.
@@ -259,8 +340,8 @@ impl<'a> Reader<'a> {
 
     /// What a line is about, of which this is the first word.
     fn seen(&mut self, alloc: Global, word: &[u8]) -> Seen {
-        if word == b"level".as_slice() {
-            return Seen::Holds(self.register(alloc));
+        if let Some(name) = self.strip(word) {
+            return Seen::Holds(self.register(alloc, name));
         }
         self.want(word == b"number".as_slice());
         Seen::Shows(self.output())

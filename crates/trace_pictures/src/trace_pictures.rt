@@ -1,16 +1,17 @@
 //! Draws a trace.
 
-ghost use Rattle.std.specs.Prelude.{length};
+ghost use Rattle.std.specs.Prelude.{◌≡◌};
 ghost use Rattle.std.specs.List.{flat_map};
 ghost use Rattle.edge_io.specs.Writing.{Writes};
-ghost use Rattle.trace_pictures.specs.TracePictures.{bands, blocks_words, dots, legend};
-ghost use Rattle.trace_pictures.specs.TracePictures.{legend_below, level_caption, start_mark};
-ghost use Rattle.trace_pictures.specs.TracePictures.{trace_picture};
+ghost use Rattle.trace_pictures.specs.TracePictures.{are_groups, bands, blocks_words, dots};
+ghost use Rattle.trace_pictures.specs.TracePictures.{group_height, group_legend, group_legend_if};
+ghost use Rattle.trace_pictures.specs.TracePictures.{legend, legend_below, level_caption};
+ghost use Rattle.trace_pictures.specs.TracePictures.{start_mark};
 
 use crate::strips::{put_note_pictures, put_titles};
 use crate::trace_laid::is_trace_laid;
-use crate::trace_printing::put_note;
-use crate::traces::{Level, Trace};
+use crate::trace_printing::{put_note, put_strip};
+use crate::traces::{Level, StripName, Trace};
 use crate::turns::put_reigns;
 use edge_io::{Piece, Sink, Writer};
 use picture_parts::{
@@ -19,7 +20,7 @@ use picture_parts::{
 };
 
 /// Writes the dots on what is marked.
-pub fn put_dots<K: Sink>(writer: &mut Writer<'_, K>)
+fn put_dots<K: Sink>(writer: &mut Writer<'_, K>)
     ensures { Writes K.told dots writer.old writer.new }
 {
     writer.text(
@@ -29,7 +30,7 @@ pub fn put_dots<K: Sink>(writer: &mut Writer<'_, K>)
 }
 
 /// Draws where eras must begin.
-pub fn put_starts<K: Sink>(writer: &mut Writer<'_, K>, frame: Frame, cells: u32, eras: &[u32])
+fn put_starts<K: Sink>(writer: &mut Writer<'_, K>, frame: Frame, cells: u32, eras: &[u32])
     ensures { Writes K.told (flat_map (start_mark frame cells) eras.now)
         writer.old writer.new }
 {
@@ -52,20 +53,20 @@ fn put_blocks<K: Sink>(writer: &mut Writer<'_, K>, blocks: Option<u64>)
     }
 }
 
-/// Writes a level's caption.
+/// Writes a strip's caption.
 fn put_level<K: Sink>(writer: &mut Writer<'_, K>, frame: Frame, level: Level)
     ensures { Writes K.told (level_caption frame level) writer.old writer.new }
 {
     writer.pieces(&[
         Piece::Text(b"<text text-anchor='start' x='4' y='"),
         Piece::Number(bottom(frame) + 44 + 16 * u64::from(level.place)),
-        Piece::Text(b"'>level "),
-        Piece::Number(level.level),
+        Piece::Text(b"'>"),
     ]);
+    put_strip(writer, level.name);
     put_blocks(writer, level.blocks);
 }
 
-/// Writes the captions of all levels.
+/// Writes the captions of all strips.
 fn put_levels<K: Sink>(writer: &mut Writer<'_, K>, frame: Frame, levels: &[Level])
     ensures { Writes K.told (flat_map (level_caption frame) levels.now)
         writer.old writer.new }
@@ -75,10 +76,9 @@ fn put_levels<K: Sink>(writer: &mut Writer<'_, K>, frame: Frame, levels: &[Level
     }
 }
 
-/// Writes what the registers and the kings' phases mean, with how nodes get a phase: they hear it,
-/// or have it.
-pub fn put_legend<K: Sink>(writer: &mut Writer<'_, K>, y: u64, verb: &[u8])
-    ensures { Writes K.told (legend y verb.now) writer.old writer.new }
+/// Writes what the registers and the kings' phases mean.
+fn put_legend<K: Sink>(writer: &mut Writer<'_, K>, y: u64)
+    ensures { Writes K.told (legend y) writer.old writer.new }
 {
     writer.pieces(&[
         Piece::Text(b"<g text-anchor='start' transform='translate(4,"),
@@ -105,21 +105,75 @@ pub fn put_legend<K: Sink>(writer: &mut Writer<'_, K>, y: u64, verb: &[u8])
                 fill='none' stroke='black'/>\
                 <text x='60' y='79'>a king's turn: keep, mark, king</text>\n\
                 <path d='M0 88h18v14H0z' fill='none' stroke='black' stroke-dasharray='2'/>\
-                <text x='24' y='99'>a turn that not all ",
+                <text x='24' y='99'>a turn that not all obey</text>\n</g>\n",
         ),
-        Piece::Text(verb),
-        Piece::Text(b"</text>\n</g>\n"),
     ]);
 }
 
-/// Writes what the colours and the cells mean, below the captions of these levels.
+/// Writes what is drawn of groups.
+fn put_group_legend<K: Sink>(writer: &mut Writer<'_, K>, y: u64)
+    ensures { Writes K.told (group_legend y) writer.old writer.new }
+{
+    writer.pieces(&[
+        Piece::Text(b"<g text-anchor='start' transform='translate(4,"),
+        Piece::Number(y),
+        Piece::Text(
+            b")'>\n<rect width='18' height='18' fill='gainsboro'/>\
+                <text x='42' y='13'>in a group with too many liars</text>\n\
+                <path d='M0 24h18v8H0z' fill='#c6dbef'/>\
+                <path d='M18 24h18v8H18z' fill='#4292c6'/>\
+                <text x='42' y='32'>the left half's share; trusted</text>\n\
+                <path d='M0 38h18v8H0z' fill='#fdd0a2'/>\
+                <path d='M18 38h18v8H18z' fill='#f16913'/>\
+                <text x='42' y='46'>the right half's share; trusted</text>\n\
+                <path d='M12 54v4l-6 -2zM24 54v4l6 -2z' stroke='black'/>\
+                <text x='42' y='60'>follows the left, the right half</text>\n\
+                <path d='M12 68v4l-6 -2zM24 68v4l6 -2z' fill='white' stroke='black'/>\
+                <text x='42' y='74'>what it saw is not backed</text>\n</g>\n",
+        ),
+    ]);
+}
+
+/// Whether strips are those of groups.
+fn are_groups(levels: &[Level]) -> bool
+    ensures { result ≡ are_groups levels.now }
+{
+    match levels {
+        [] => false,
+        [level, ..] => match level.name {
+            StripName::Level(_) => false,
+            StripName::Group(_) => true,
+        },
+    }
+}
+
+/// How high what is said of groups is.
+fn group_height(are_groups: bool) -> u64
+    ensures { result ≡ group_height are_groups }
+{
+    match are_groups {
+        true => 86,
+        false => 0,
+    }
+}
+
+/// Writes what is drawn of groups, if there are any.
+fn put_group_legend_if<K: Sink>(writer: &mut Writer<'_, K>, are_groups: bool, y: u64)
+    ensures { Writes K.told (group_legend_if are_groups y) writer.old writer.new }
+{
+    if are_groups {
+        put_group_legend(writer, y);
+    }
+}
+
+/// Writes what the colours and the cells mean, below the captions of these strips.
 fn put_legend_below<K: Sink>(writer: &mut Writer<'_, K>, frame: Frame, levels: &[Level])
-    ensures { Writes K.told (legend_below frame (length levels.now))
-        writer.old writer.new }
+    ensures { Writes K.told (legend_below frame levels.now) writer.old writer.new }
 {
     let lines = 16 * levels.len() as u64;
     put_colour_legend(writer, bottom(frame) + 40 + lines);
-    put_legend(writer, bottom(frame) + 62 + lines, b"hear");
+    put_legend(writer, bottom(frame) + 62 + lines);
+    put_group_legend_if(writer, are_groups(levels), bottom(frame) + 172 + lines);
 }
 
 /// Draws all that is within the bands.
@@ -155,7 +209,8 @@ impl Figure for Trace {
         let frame = self.frame;
         let bottom = bottom(frame);
         let levels = self.captions();
-        let height = bottom + 168 + 16 * levels.len() as u64;
+        let groups = group_height(are_groups(levels));
+        let height = bottom + 168 + 16 * levels.len() as u64 + groups;
         put_front(writer, picture_width(frame), height);
         put_ground(writer);
         put_dots(writer);

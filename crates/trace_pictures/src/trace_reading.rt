@@ -1,7 +1,7 @@
 //! Reads a trace from what `trace` writes.
 
 use crate::trace_lines::{TraceFault, TraceLine, trace_line};
-use crate::traces::{Register, Seen, Trace};
+use crate::traces::{Register, Seen, StripName, Trace};
 use edge_io::{Lines, first_line};
 use picture_parts::{ChartError, Frame, MOST_ROUNDS, Wanted, digits_of};
 use std::alloc::Global;
@@ -9,16 +9,18 @@ use std::alloc::Global;
 /// How many nodes a trace has at most.
 pub const MOST_NODES: usize = 256;
 
-/// The highest number of a level, with the lowest level as 1.
-pub const MOST_LEVELS: u64 = 16;
+/// The highest number of a strip, with the lowest one as 1.
+pub const MOST_STRIPS: u64 = 256;
 
 /// A trace of which the beginning was read.
 #[derive(Drop)]
 struct Draft {
     trace: Trace,
+    /// The groups, in the order in which they came: their places, from 1 on, number the strips.
+    groups: Vec<StripName>,
     /// Which of its nodes the last line is about.
     place: usize,
-    /// The level of that line, or 0 if it is about the node's state.
+    /// The strip of that line, or 0 if it is about the node's state.
     level: u64,
     /// How many digits the longest number to be drawn has.
     digits: u16,
@@ -102,9 +104,23 @@ fn take_state(draft: &mut Draft, t: u32, node: u64) -> Result<(), TraceFault> {
     take_node(draft, place, node)
 }
 
-/// Takes the level of a line on a register: it is of the node whose state was said, and levels
+/// The number of a strip: that of a level is the level's, and groups are numbered as they come.
+fn number_of(groups: &mut Vec<StripName>, name: StripName) -> Result<u64, TraceFault> {
+    if let StripName::Level(level) = name {
+        return Ok(level);
+    }
+    for i in 0..groups.len() {
+        if groups[i] == name {
+            return Ok((i as u64).saturating_add(1));
+        }
+    }
+    groups.push(name)?;
+    Ok(groups.len() as u64)
+}
+
+/// Takes the strip of a line on a register: it is of the node whose state was said, and strips
 /// rise.
-fn take_level(draft: &mut Draft, line: &TraceLine, level: u64) -> Result<(), TraceFault> {
+fn take_strip(draft: &mut Draft, line: &TraceLine, level: u64) -> Result<(), TraceFault> {
     let Some(last) = draft.trace.notes.last() else {
         return Err(TraceFault::Unwanted);
     };
@@ -114,7 +130,7 @@ fn take_level(draft: &mut Draft, line: &TraceLine, level: u64) -> Result<(), Tra
         || last.node != line.node
         || last.is_faulty != line.is_faulty
         || level <= draft.level
-        || level > MOST_LEVELS
+        || level > MOST_STRIPS
     {
         return Err(TraceFault::Unwanted);
     }
@@ -131,10 +147,13 @@ fn longest_of(register: &Register) -> u16 {
     length_of(king).max(length_of(register.value.unwrap_or(0)))
 }
 
-/// Takes what a line says.
-fn take(draft: &mut Draft, line: &TraceLine) -> Result<(), TraceFault> {
+/// Takes what a line says, and gives its strip a number.
+fn take(draft: &mut Draft, line: &mut TraceLine) -> Result<(), TraceFault> {
     if line.t > MOST_ROUNDS {
         return Err(TraceFault::Unwanted);
+    }
+    if let Seen::Holds(register) = &mut line.seen {
+        register.level = number_of(&mut draft.groups, register.name)?;
     }
     let digits = match &line.seen {
         Seen::Shows(shown) => {
@@ -144,7 +163,7 @@ fn take(draft: &mut Draft, line: &TraceLine) -> Result<(), TraceFault> {
             length_of(shown.output)
         }
         Seen::Holds(register) => {
-            take_level(draft, line, register.level)?;
+            take_strip(draft, line, register.level)?;
             longest_of(register)
         }
     };
@@ -198,8 +217,8 @@ fn finished(draft: Draft, line: u64) -> Result<Trace, ChartError> {
 
 /// Reads a line and takes it.
 fn take_bytes(alloc: Global, draft: &mut Draft, bytes: &[u8]) -> Result<(), TraceFault> {
-    let line = trace_line(alloc, bytes)?;
-    take(draft, &line)?;
+    let mut line = trace_line(alloc, bytes)?;
+    take(draft, &mut line)?;
     add_note(draft, line)
 }
 
@@ -208,6 +227,7 @@ fn take_bytes(alloc: Global, draft: &mut Draft, bytes: &[u8]) -> Result<(), Trac
 pub fn read_trace(alloc: Global, text: &[u8]) -> Result<Trace, ChartError> {
     let mut draft = Draft {
         trace: empty(alloc),
+        groups: Vec::new(alloc),
         place: 0,
         level: 0,
         digits: 1,

@@ -6,9 +6,10 @@ ghost use Rattle.std.specs.List.{range_with_len};
 ghost use Rattle.picture_parts.specs.Moduli.{HasOutput, IsBelow, IsModulusOf};
 ghost use Rattle.trace_pictures.specs.TraceSaid.{HasBlocks, HasLine, HasVotes, IsLevelSaid};
 ghost use Rattle.trace_pictures.specs.TraceSaid.{IsTraceSaid, KnowValues, is_lost_before, is_of};
-ghost use Rattle.trace_pictures.specs.TraceSaid.{output_said, value_before, votes_at};
+ghost use Rattle.trace_pictures.specs.TraceSaid.{output_said, value_above, value_before};
+ghost use Rattle.trace_pictures.specs.TraceSaid.{votes_at, votes_by};
 
-use crate::traces::{Level, Note, Seen, Trace};
+use crate::traces::{Basis, Level, Note, Seen, StripName, Trace};
 use crate::turns_said::{are_turns_said, columns_rise};
 use picture_parts::is_below;
 
@@ -45,16 +46,29 @@ fn is_modulus_of(notes: &[Note], modulus: u64) -> bool
     are_below(modulus, notes) && (modulus == 0 || has_output(notes, modulus - 1))
 }
 
-/// What the last register holds of a line and of those after it, up to the next output.
+/// Which of these a node shows: the value of a register, or that of those after it, if there are any.
+/// Levels come before those above them, and groups after those in which they are.
+fn value_above(
+    name: StripName,
+    value: Option<u64>,
+    later: Option<Option<u64>>,
+) -> Option<Option<u64>>
+    ensures { result ≡ value_above name value later }
+{
+    match (name, later) {
+        (StripName::Level(_), Some(later)) => Some(later),
+        (StripName::Level(_), None) => Some(value),
+        (StripName::Group(_), _) => Some(value),
+    }
+}
+
+/// What a node shows by a line and by those after it, up to the next output.
 pub fn value_before(seen: &Seen, later: Option<Option<u64>>) -> Option<Option<u64>>
     ensures { result ≡ value_before seen.now later }
 {
     match seen {
         Seen::Shows(_) => None,
-        Seen::Holds(register) => match later {
-            None => Some(register.value),
-            Some(value) => Some(value),
-        },
+        Seen::Holds(register) => value_above(register.name, register.value, later),
     }
 }
 
@@ -88,6 +102,16 @@ fn know_values(notes: &[Note]) -> bool
     true
 }
 
+/// Of how many blocks a node hears votes, if it has its instruction by these.
+fn votes_by(basis: &Basis) -> Option<usize>
+    ensures { result ≡ votes_by basis.now }
+{
+    match basis {
+        Basis::Votes(beat) => Some(beat.votes.len()),
+        Basis::Follows(_) => None,
+    }
+}
+
 /// Of how many blocks a line hears votes at a level, if it does.
 fn votes_at(level: u64, note: &Note) -> Option<usize>
     ensures { result ≡ votes_at level note.now }
@@ -100,7 +124,7 @@ fn votes_at(level: u64, note: &Note) -> Option<usize>
             }
             match &register.heard {
                 None => None,
-                Some(heard) => Some(heard.votes.len()),
+                Some(heard) => votes_by(&heard.basis),
             }
         }
     }

@@ -20,12 +20,92 @@ pub enum Turn {
     King,
 }
 
-/// What a node makes of what it hears at a level.
-pub struct Heard {
+/// Which group of a halving plan it is.
+#[derive(Clone, Copy, PartialEq, Eq)]
+pub enum Side {
+    Whole,
+    Left,
+    Right,
+}
+
+/// A group of a halving plan.
+#[derive(Clone, Copy, PartialEq, Eq)]
+pub struct Group {
+    pub side: Side,
+    /// The id of its first node.
+    pub first: u64,
+    /// The id of its last node.
+    pub last: u64,
+}
+
+/// What a strip is of.
+#[derive(Clone, Copy, PartialEq, Eq)]
+pub enum StripName {
+    /// A level of a boosting plan, the lowest being 1.
+    Level(u64),
+    /// A group of a halving plan.
+    Group(Group),
+}
+
+/// One half of a group.
+#[derive(Clone, Copy)]
+pub enum Half {
+    Left,
+    Right,
+}
+
+/// What a node of a group holds besides its register.
+#[derive(Clone, Copy)]
+pub struct LeftSeen {
+    /// Whether no more nodes of the group are faulty than it tolerates.
+    pub is_sound: bool,
+    /// What the left half showed a round ago.
+    pub seen: u64,
+    pub is_trusted: bool,
+    /// In whose share of the left half's period that stands.
+    pub share: Half,
+}
+
+/// The beat that a node of a boosting plan hears.
+pub struct Beat {
     /// The vote of each block.
     pub votes: Vec<u64>,
     pub lead: u64,
     pub position: u64,
+}
+
+// Written out, so that code that drops one has a single call.
+impl Drop for Beat {
+    fn drop(self) {
+        let Beat {
+            votes,
+            lead: _,
+            position: _,
+        } = self;
+        drop(votes);
+    }
+}
+
+/// Which half a node of a halving plan follows.
+#[derive(Clone, Copy)]
+pub struct Following {
+    /// How many nodes saw what it saw of the left half.
+    pub saw: u64,
+    pub is_backed: bool,
+    pub half: Half,
+    pub instruction: u64,
+}
+
+/// By what a node has its instruction.
+#[derive(Drop)]
+pub enum Basis {
+    Votes(Beat),
+    Follows(Following),
+}
+
+/// What a node makes of what it hears.
+pub struct Heard {
+    pub basis: Basis,
     pub turn: Turn,
     pub king: u64,
     pub same: u64,
@@ -36,15 +116,13 @@ pub struct Heard {
 impl Drop for Heard {
     fn drop(self) {
         let Heard {
-            votes,
-            lead: _,
-            position: _,
+            basis,
             turn: _,
             king: _,
             same: _,
             least: _,
         } = self;
-        drop(votes);
+        drop(basis);
     }
 }
 
@@ -55,11 +133,15 @@ pub struct Output {
     pub output: u64,
 }
 
-/// A register, and what the node hears at its level, if it goes on.
+/// A register, and what the node makes of what it hears, if it goes on.
 pub struct Register {
+    /// The number of its strip.
     pub level: u64,
+    pub name: StripName,
     pub value: Option<u64>,
     pub held: Held,
+    /// What the node holds besides, on a halving plan.
+    pub own: Option<LeftSeen>,
     pub heard: Option<Heard>,
 }
 
@@ -68,8 +150,10 @@ impl Drop for Register {
     fn drop(self) {
         let Register {
             level: _,
+            name: _,
             value: _,
             held: _,
+            own: _,
             heard,
         } = self;
         drop(heard);
@@ -117,16 +201,18 @@ impl Drop for Note {
     }
 }
 
-/// A king's phase, as some correct nodes hear it.
+/// A king's phase, as some correct nodes obey it.
 #[derive(Clone, Copy)]
 pub struct KingPhase {
     pub column: u32,
+    /// The number of its strip.
     pub level: u64,
+    pub name: StripName,
     pub king: u64,
     pub turn: Turn,
-    /// How many others of this column and level stand before it.
+    /// How many others of this column and strip stand before it.
     pub lane: u32,
-    /// Whether all correct nodes that have that level hear it.
+    /// Whether all correct nodes of that strip obey it.
     pub is_common: bool,
     /// The top of its cell, in its band.
     pub top: u32,
@@ -137,15 +223,23 @@ pub struct KingPhase {
 pub struct Title {
     pub column: u32,
     pub top: u32,
+    /// The number of its strip.
     pub level: u64,
+    pub name: StripName,
 }
 
-/// A level, in the caption, and its strip.
+/// A level or a group, in the caption, and its strip.
 #[derive(Clone, Copy)]
 pub struct Level {
     /// How many stand before it.
     pub place: u32,
+    /// The number of the strip: they rise.
     pub level: u64,
+    pub name: StripName,
+    /// How many nodes of the trace stand before its first one.
+    pub before: u16,
+    /// For how many nodes it has a line.
+    pub members: u16,
     /// How many blocks vote at it, if a line says it.
     pub blocks: Option<u64>,
     /// The top of its kings' phases, in each band.

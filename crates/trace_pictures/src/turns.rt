@@ -6,13 +6,13 @@ ghost use Rattle.edge_io.specs.Writing.{Writes};
 ghost use Rattle.picture_parts.specs.Frames.{width};
 ghost use Rattle.trace_pictures.specs.Strips.{edge, gold_part, king_text, reign_picture, share};
 
-use crate::trace_printing::turn_word;
+use crate::trace_printing::{put_strip, turn_word};
 use crate::traces::{KingPhase, Turn};
 use edge_io::{Piece, Sink, Writer};
 use picture_parts::{CellPosition, Frame, configuration, left, middle, spot_top, width};
 
 /// How far a phase has come, as a part of its cell.
-pub fn share(spot: CellPosition, turn: Turn) -> u64
+fn share(spot: CellPosition, turn: Turn) -> u64
     ensures { result ≡ share (width spot) turn }
 {
     match turn {
@@ -22,8 +22,8 @@ pub fn share(spot: CellPosition, turn: Turn) -> u64
     }
 }
 
-/// A frame, broken if not all hear a phase.
-pub fn edge(is_common: bool) -> &'static [u8]
+/// A frame, broken if not all obey a phase.
+fn edge(is_common: bool) -> &'static [u8]
     ensures { result.now ≡ edge is_common }
 {
     match is_common {
@@ -33,7 +33,7 @@ pub fn edge(is_common: bool) -> &'static [u8]
 }
 
 /// Draws a part of a cell in gold, and a frame about the cell.
-pub fn put_gold_part<'a, K: Sink>(
+fn put_gold_part<'a, K: Sink>(
     writer: &mut Writer<'_, K>,
     spot: CellPosition,
     part: u64,
@@ -65,7 +65,7 @@ pub fn put_gold_part<'a, K: Sink>(
 }
 
 /// Writes the king, and ends a group.
-pub fn put_king<K: Sink>(writer: &mut Writer<'_, K>, spot: CellPosition, king: u64)
+fn put_king<K: Sink>(writer: &mut Writer<'_, K>, spot: CellPosition, king: u64)
     ensures { Writes K.told (king_text spot king) writer.old writer.new }
 {
     writer.pieces(&[
@@ -92,8 +92,10 @@ fn put_reign<K: Sink>(writer: &mut Writer<'_, K>, frame: Frame, reign: KingPhase
     writer.pieces(&[
         Piece::Text(b"<g><title>configuration "),
         Piece::Number(configuration(spot)),
-        Piece::Text(b", level "),
-        Piece::Number(reign.level),
+        Piece::Text(b","),
+    ]);
+    put_strip(writer, reign.name);
+    writer.pieces(&[
         Piece::Text(b":"),
         Piece::Text(turn_word(reign.turn)),
         Piece::Number(reign.king),

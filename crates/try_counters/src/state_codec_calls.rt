@@ -190,6 +190,17 @@ fn further_registers_stand_behind(rt: HostRuntime) -> Result<(), Fail> {
     }
     assert!(rt; two.nodes() == 4 && two.depth() == 3 && two.modulus_of(0, 2) == 16);
     assert!(rt; two.nodes() == 4 && two.bits_of(0) == 27 && two.bytes_of(0) == 4);
+    assert!(rt; two.depth() == 3 && two.bits() == 27 && two.bytes() == 4 && two.modulus(2) == 16);
+    Ok(())
+}
+
+#[test]
+fn node_0_has_all_fields(rt: HostRuntime) -> Result<(), Fail> {
+    let plan = three_and_one(rt.alloc())?;
+    let shape = StateShape::of(rt.alloc(), &plan)?;
+    assert!(rt; shape.depth() == 1 && shape.modulus(0) == 10);
+    assert!(rt; shape.bits() == 15 && plan.bits() == 15);
+    assert!(rt; shape.bytes() == 2 && plan.bytes() == 2);
     Ok(())
 }
 
@@ -200,6 +211,7 @@ fn one_node_has_a_number_alone(rt: HostRuntime) -> Result<(), Fail> {
     shape.read_state(0, b"\x80", &mut state);
     assert!(rt; state.x() == 4 && state.depth() == 0);
     assert!(rt; shape.base_of(0) == 5 && shape.bits_of(0) == 3 && shape.bytes_of(0) == 1);
+    assert!(rt; shape.bits() == 3 && shape.bytes() == 1);
     Ok(())
 }
 
@@ -215,16 +227,9 @@ fn puts(alloc: Global, packed: &mut Packed, v: u32, bytes: &[u8]) -> Result<bool
     Ok(v < packed.nodes() && packed.x(v) == 0)
 }
 
-/// Whether the current state of a node is written as these bytes.
+/// Whether the current state of a node is held as these bytes.
 fn has_bytes(packed: &Packed, v: u32, bytes: &[u8]) -> bool {
-    packed.facts();
-    if v >= packed.nodes() {
-        return false;
-    }
-    let mut room = [0; 128];
-    let own = &mut room[..packed.shape().bytes_of(v)];
-    packed.shape().write_state(v, packed.state(v), own);
-    &*own == bytes
+    v < packed.nodes() && packed.bytes(v) == bytes
 }
 
 /// Whether the current state of a node is that of a row.

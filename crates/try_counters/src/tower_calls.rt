@@ -295,7 +295,7 @@ fn shared_step<G: Ledger>(
     let (from, to) = tower.relevant_liars(node, &shared);
     let mut out = NodeState::zero(alloc, tower.depth())?;
     out.set_x(5);
-    tower.advance_shared(node, lies, &mut shared, &mut out, &mut steps);
+    tower.advance_shared(node, config, lies, &mut shared, &mut out, &mut steps);
     Ok((out, from, to))
 }
 

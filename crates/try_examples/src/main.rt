@@ -1,10 +1,13 @@
 //! Tries the examples: what the workbench answers to each is compared with what is written beside
 //! it. It fails if one differs, or has no answer beside it. In the folder `pictures` each stored
-//! picture or page is compared with what is drawn of the text of the same name.
+//! picture or page is compared with what is drawn of the text of the same name. After the word
+//! `made` inputs are tried that no folder has.
 #![tactic(auto)]
 
+mod made;
 mod pictures;
 
+use crate::made::try_made;
 use crate::pictures::try_picture;
 use edge_io::{MemSink, PlainSource};
 use std::alloc::Global;
@@ -120,9 +123,12 @@ fn try_file(rt: &HostRuntime, folder: &str, file: &str, files: &[String]) -> any
     Ok(!is_stray)
 }
 
-/// Tries the files of a folder. Whether all are as they should be.
+/// Tries the files of a folder, or what is made. Whether all are as they should be.
 fn try_folder(rt: &HostRuntime, folder: &str) -> anyhow::Result<bool> {
     println!(rt; "{folder}:")?;
+    if folder == "made" {
+        return try_made(rt);
+    }
     let files = names_of(rt, folder)?;
     let mut same = true;
     for file in &files {

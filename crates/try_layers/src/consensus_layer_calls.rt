@@ -1,11 +1,12 @@
 ghost use Rattle.std.specs.Prelude.{◌<◌};
 ghost use Rattle.construction.specs.Plans.{plan_nodes};
 
-use consensus_layer::{AgreeError, AgreeRefusal, read_agree};
+use consensus_layer::{AgreeError, AgreeRefusal, agree_at, read_agree};
+use counter_core::{Heard, Work};
 use plan_numbers::Plan;
 use std::alloc::Global;
 use std::test::Fail;
-use sync_types::Rule;
+use sync_types::{NodeState, Reg, Rule};
 use try_counters::plans::four;
 
 /// A text, how many bytes and lines its part has, and how many values an input has.
@@ -123,6 +124,35 @@ fn errors_have_texts(rt: HostRuntime) -> Result<(), Fail> {
     for row in &TEXTS {
         let text = format!(in rt.alloc(); "{}", row.0)?;
         assert!(rt; text.as_str() == row.1, "{text}");
+    }
+    Ok(())
+}
+
+const ZERO: Reg = Reg {
+    a: Some(0),
+    d: false,
+};
+
+const MARKED: Reg = Reg {
+    a: Some(0),
+    d: true,
+};
+
+/// A kind, and the register that it gives if all have 0, unmarked.
+const INSTRUCTED: [(u64, Reg); 3] = [(0, ZERO), (1, MARKED), (2, MARKED)];
+
+/// Whether node 1 of four has the register of a row, under king 2.
+fn is_instructed(alloc: Global, row: &(u64, Reg)) -> Result<bool, Fail> {
+    let states = NodeState::zeros(alloc, 4, 1)?;
+    let mut work = Work::new(alloc, 4)?;
+    let register = agree_at(&Heard::of(&states), 1, 0, row.0 % 3, 2, 4, 1, &mut work);
+    Ok(register == row.1)
+}
+
+#[test]
+fn a_register_is_instructed(rt: HostRuntime) -> Result<(), Fail> {
+    for row in &INSTRUCTED {
+        assert!(rt; is_instructed(rt.alloc(), row)?, "kind {}", row.0);
     }
     Ok(())
 }

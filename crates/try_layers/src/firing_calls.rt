@@ -1,5 +1,5 @@
-use firing::{FireError, FireRefusal, read_fire};
 use plan_numbers::Plan;
+use replicated_log::{FireError, FireRefusal, read_fire};
 use std::alloc::{AllocError, Global};
 use std::test::Fail;
 use sync_types::Rule;

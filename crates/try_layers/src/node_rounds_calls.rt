@@ -27,7 +27,7 @@ fn engine(
     let mut state = NodeState::zero(alloc, shape.depth())?;
     shape.read_state(v, start, &mut state);
     let machine = PlanMachine::with_shape(alloc, plan, shape)?;
-    NodeEngine::new(alloc, machine, v, state)
+    NodeEngine::of_machine(alloc, machine, v, state)
 }
 
 /// What node `v` hears of node `u` in the runner's round: its own state, the state of a correct

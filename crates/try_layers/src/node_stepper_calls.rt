@@ -2,36 +2,32 @@ ghost use Rattle.std.specs.Prelude.{◌≡◌, ◌<◌, IfOk};
 ghost use Rattle.construction.specs.Plans.{plan_nodes};
 
 use edge_io::{Feed, MemSink, PlainSource};
-use node_stepper::{NodeEngine, NodeFault};
-use plan_machine::PlanMachine;
+use node_stepper::NodeFault;
+use plan_machine::{NodeEngine, PlanNode};
 use plan_numbers::Plan;
 use state_codec::StateShape;
 use std::alloc::{AllocError, Global};
 use std::test::Fail;
 use sync_types::{NoMemory, NodeState};
+use tower::build;
 use try_counters::plans::{four, one, three_and_one};
 
 /// A node in the state of these bytes.
-pub fn engine(
-    alloc: Global,
-    plan: &Plan,
-    id: u32,
-    bytes: &[u8],
-) -> Result<NodeEngine<PlanMachine>, NoMemory>
+pub fn engine(alloc: Global, plan: &Plan, id: u32, bytes: &[u8]) -> Result<NodeEngine, NoMemory>
     requires { id < plan_nodes plan.now }
     ensures { IfOk result (λ e. e.counter ≡ plan.now) }
 {
     let shape = StateShape::of(alloc, plan)?;
     let mut state = NodeState::zero(alloc, shape.depth())?;
     shape.read_state(id, bytes, &mut state);
-    let machine = PlanMachine::with_shape(alloc, plan, shape)?;
-    NodeEngine::new(alloc, machine, id, state)
+    let tower = build(alloc, plan)?;
+    NodeEngine::new(alloc, tower, shape, id, state)
 }
 
 /// What an engine answers to an input.
 pub fn served(
     alloc: Global,
-    mut engine: NodeEngine<PlanMachine>,
+    mut engine: NodeEngine,
     input: &[u8],
 ) -> Result<(Result<u64, NodeFault>, MemSink), Fail> {
     let mut source = PlainSource::new(input);

@@ -4,7 +4,8 @@ ghost use Rattle.construction.specs.Plans.{plan_depth};
 use crate::players::begun;
 use plan_numbers::Plan;
 use plan_reader::read_whole_plan;
-use run_explanations::{Explanation, check_explanation, explain};
+use run_checker::{Explanation, check_explanation, explain};
+use run_explanations::first_explanation;
 use std::alloc::Global;
 use std::test::Fail;
 
@@ -133,17 +134,25 @@ fn plan_of(alloc: Global, text: &str) -> Result<Plan, Fail>
     Ok(plan)
 }
 
-/// Whether what explains a row's run is that of the row.
+/// Whether what explains a row's run is that of the row, and all of it was played.
 fn is_explained(alloc: Global, row: &Row) -> Result<bool, Fail> {
     let plan = plan_of(alloc, row.0)?;
     let mut runner = begun(alloc, &plan, row.1)?;
-    Ok(explain(&plan, &mut runner) == row.2)
+    Ok(explain(&plan, &mut runner) == row.2 && runner.rounds_left() == 0)
+}
+
+/// Whether the same is found when no more is played than that takes.
+fn is_found(alloc: Global, row: &Row) -> Result<bool, Fail> {
+    let plan = plan_of(alloc, row.0)?;
+    let mut runner = begun(alloc, &plan, row.1)?;
+    Ok(first_explanation(&plan, &mut runner) == row.2 && runner.knows_locks())
 }
 
 #[test]
 fn first_explanations(rt: HostRuntime) -> Result<(), Fail> {
     for row in &ROWS {
         assert!(rt; is_explained(rt.alloc(), row)?, "at {}", row.1);
+        assert!(rt; is_found(rt.alloc(), row)?, "at {}", row.1);
     }
     Ok(())
 }

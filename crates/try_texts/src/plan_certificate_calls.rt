@@ -1,5 +1,6 @@
 use edge_io::MemSink;
-use plan_reader::{TableError, TableRefusal, read_table, read_whole_plan, write_plan, write_table};
+use plan_certificate::{TableError, TableRefusal, read_table, write_table};
+use plan_reader::{read_whole_plan, write_plan};
 use std::alloc::Global;
 use std::test::Fail;
 use sync_types::{Cause, Premise};

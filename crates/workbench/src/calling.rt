@@ -92,7 +92,8 @@ fn answer<S: Source, K: Sink>(
 ///   start and for each whole packet, and no line.
 /// - `ReadFault`: only if the source counted a fault in this call, and just one, before its end
 ///   was met, and after bytes that do not show what decides, so never of `demo`; nothing was
-///   written, but by `node` the cells of the whole packets that were read.
+///   written, but by `node`, once its header was read, its first cell and one for each whole packet
+///   that was read.
 /// - `WriteFault`: only if the sink counted one, and just one; a prefix of the answer was taken.
 /// - `TooLong`: exactly if the byte after the limit was there, and, of `check` and of the header of
 ///   `node`, no line was refused before it; nothing was written. Of `node` also if there was a byte
@@ -113,7 +114,8 @@ pub fn counterlab<S: Source, K: Sink>(
     ensures unread { LeavesUnread (manner (command_of (map string_bytes words.now)))
         source.old source.new }
 
-    // No source is asked again after its end: if a read failed, no read before it gave nothing.
+    // No source is asked again after its end: if a read failed, no read of this call before it gave
+    // nothing, unless the end was met before the call.
     ensures unmet { LeavesUnmet result (S.met source.old) (S.met source.new) }
 
     // And if nothing was to be written, the sink is as it was.

@@ -13,11 +13,11 @@ returns-then-depth-eq0-clause-played g c =
     skipped_plays _ _ c.play_until_known.ensures.skipped
     (c.play_until_known.ensures.played [] c.requires.start.plays)
 
-pub explain-requires-clause-level : goal.explain-requires-clause-level
-explain-requires-clause-level g c = omega (arith, c.depth.ensures.value, c.if-depth-eq0.false)
+pub first_explanation-requires-clause-level : goal.first_explanation-requires-clause-level
+first_explanation-requires-clause-level g c = omega (arith, c.depth.ensures.value, c.if-depth-eq0.false)
 
-pub explain-requires-clause-start : goal.explain-requires-clause-start
-explain-requires-clause-start g c = record {
+pub first_explanation-requires-clause-start : goal.first_explanation-requires-clause-start
+first_explanation-requires-clause-start g c = record {
   plan_is = c.requires.plan;
   at = c.requires.start.at;
   plays = c.requires.start.plays;
@@ -25,9 +25,9 @@ explain-requires-clause-start g c = record {
 
 pub returns-clause-lines : goal.returns-clause-lines
 returns-clause-lines g c =
-    writes_is (why_is c.args.plan.now _ c.explain.result
-    (λ none. c.if-depth-eq0.false (c.depth.ensures.value ∙ none)) c.explain.ensures.value)
+    writes_is (why_is c.args.plan.now _ c.first_explanation.result
+    (λ none. c.if-depth-eq0.false (c.depth.ensures.value ∙ none)) c.first_explanation.ensures.value)
     c.put_explanation.ensures
 
 pub returns-clause-played : goal.returns-clause-played
-returns-clause-played g c = explained_plays _ _ c.explain.ensures.played
+returns-clause-played g c = explained_plays _ _ c.first_explanation.ensures.played

@@ -1,4 +1,4 @@
-use Rattle.plan_reader.specs.Tables.{table_text}
+use Rattle.plan_certificate.specs.Tables.{table_text}
 use Rattle.outcomes.specs.Inputs.{plan_alone}
 use Rattle.answers.proofs.Unwritten.{unread_text, unwritten_text}
 use Rattle.answers.proofs.words.plan.Goals as goal

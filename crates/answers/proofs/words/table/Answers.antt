@@ -1,7 +1,7 @@
 use Rattle.std.proofs.Common.{ap}
 use Rattle.std.specs.Prelude.{codes}
 use Rattle.construction.specs.Plans.{Plan}
-use Rattle.plan_reader.specs.TableLines.{table_of}
+use Rattle.plan_certificate.specs.TableLines.{table_of}
 use Rattle.outcomes.specs.Inputs.{in_table, or_refusal}
 use Rattle.outcomes.specs.Answers.{text_by}
 use Rattle.answers.proofs.Unwritten.{refuses_table, refuses_text, unread, unwritten}

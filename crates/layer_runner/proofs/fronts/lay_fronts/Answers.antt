@@ -5,28 +5,20 @@ use Rattle.construction.specs.Steps.{state_of}
 use Rattle.counter_core.specs.Meanings.{cut}
 use Rattle.adversary_script.proofs.LiesInRange.{depth_of_node}
 use Rattle.machine_runner.proofs.Laid.{one_laid, all_laid}
-use Rattle.layer_runner.proofs.CutStates.{state_of-cut, written_exact}
+use Rattle.layer_runner.proofs.CutStates.{state_of-cut}
 use Rattle.layer_runner.proofs.LaidFronts.{cut_long, none_laid, deep_at}
 use Rattle.layer_runner.proofs.fronts.lay_fronts.Goals as goal
 
-pub copy_front-requires-clause-state : goal.copy_front-requires-clause-state
-copy_front-requires-clause-state c =
-    let lt : c.loop-v.v < length c.args.states.now.current =
-    omega (arith, c.loop-v-test.true, c.nodes-v-end.ensures.current) in
-    let deep = depth_of_node c.args.states.now.shape c.loop-v.v _
-    (c.facts.ensures.current c.loop-v.v lt) in
-    let same = ap (λ (s : State). length s.registers) c.state.ensures in
-    omega (arith, deep, same, c.requires.count)
-
-pub copy_front-requires-clause-out : goal.copy_front-requires-clause-out
-copy_front-requires-clause-out c =
+pub front-requires-clause-depth : goal.front-requires-clause-depth
+front-requires-clause-depth c =
     let size = c.loop-v.invariant.size in
     let long = length-map c.args.states.now.current (cut c.args.count) in
     let deep = deep_at c.args.count c.loop-v.fronts c.loop-v.v c.index-fronts-v.result
     c.loop-v.invariant.deep
     (omega (arith, c.loop-v-test.true, c.nodes-v-end.ensures.current, size, long))
     c.index-fronts-v.is in
-    omega (arith, deep)
+    let same = ap (λ (s : State). length s.registers) c.index-fronts-v.is in
+    omega (arith, deep, same, c.requires.count)
 
 pub loop-v-init : goal.loop-v-init
 loop-v-init c = none_laid c.args.count c.args.states.now.current c.args.fronts.now c.requires.room
@@ -44,13 +36,11 @@ loop-v-preserved c =
     (c.facts.ensures.current c.loop-v.v lt) in
     let room = deep_at count c.loop-v.fronts c.loop-v.v c.index-fronts-v.result
     c.loop-v.invariant.deep (omega (arith, here, size)) c.index-fronts-v.is in
-    let is : c.copy_front.new.out ≡ cut count (state_of config c.loop-v.v) =
-    c.copy_front.ensures
-    ∙ written_exact count c.state.result.now
-    (get_or c.loop-v.fronts c.loop-v.v c.index-fronts-v.result)
-    (sym (ap (λ (s : State). length s.registers) c.index-fronts-v.is) ∙ room)
-    ∙ ap (cut count) c.state.ensures in
-    one_laid (map (cut count) config) count c.loop-v.v c.loop-v.fronts c.copy_front.new.out here
+    let is : c.front.new.out ≡ cut count (state_of config c.loop-v.v) =
+    c.front.ensures
+    ∙ ap (λ n. cut n (state_of config c.loop-v.v))
+    (ap (λ (s : State). length s.registers) c.index-fronts-v.is ∙ room) in
+    one_laid (map (cut count) config) count c.loop-v.v c.loop-v.fronts c.front.new.out here
     c.loop-v.invariant (is ∙ sym (state_of-cut count config c.loop-v.v))
     (ap (λ (s : State). length s.registers) is
     ∙ cut_long count (state_of config c.loop-v.v) (omega (arith, deep, c.requires.count)))

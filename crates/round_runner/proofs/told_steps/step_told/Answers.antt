@@ -3,9 +3,9 @@ use Rattle.std.proofs.lemmas.List.{length-map, with_items_is}
 use Rattle.std.proofs.lemmas.List.FromFn.{length-map-range_with_len}
 use Rattle.sync_types.specs.States.{State}
 use Rattle.construction.specs.Plans.{plan_nodes, plan_depth}
-use Rattle.construction.specs.Steps.{state_of}
+use Rattle.construction.specs.Steps.{state_of, step_of}
 use Rattle.counter_core.specs.Meanings.{cut, written}
-use Rattle.shared_board.specs.Sharing.{Shares, place_among}
+use Rattle.shared_board.specs.Sharing.{Shares, heard_with, place_among, stands_for}
 use Rattle.round_runner.specs.Hearing.{AreLies, heard_of_all}
 use Rattle.round_runner.proofs.Told.{tells_taken, step_taken, written_long}
 use Rattle.round_runner.proofs.Liars.{taken_told}
@@ -20,14 +20,15 @@ relevant_liars-requires-clause-size g c =
     ap (λ (s : Shares). length s.states) c.requires.stands
     ∙ length-map hearer.states.now.current (cut (plan_depth hearer.tower.now)) ∙ hearer.size
 
-pub advance_shared-requires-clause-plan : goal.advance_shared-requires-clause-plan
-advance_shared-requires-clause-plan g c = c.requires.room.shared
+pub advance_shared-requires-clause-stands : goal.advance_shared-requires-clause-stands
+advance_shared-requires-clause-stands g c =
+    let hearer = c.args.hearer.now in
+    c.requires.stands
+    ∙ ap (stands_for hearer.tower.now hearer.states.now.current)
+    (sym (ap (λ (s : Shares). s.faulty) c.requires.stands))
 
 pub advance_shared-requires-clause-size : goal.advance_shared-requires-clause-size
-advance_shared-requires-clause-size g c =
-    let hearer = c.args.hearer.now in
-    ap (λ (s : Shares). length s.states) c.requires.stands
-    ∙ length-map hearer.states.now.current (cut (plan_depth hearer.tower.now)) ∙ hearer.size
+advance_shared-requires-clause-size g c = c.args.hearer.now.size
 
 pub advance_shared-requires-clause-out : goal.advance_shared-requires-clause-out
 advance_shared-requires-clause-out g c =
@@ -88,7 +89,10 @@ returns-clause-out g c =
     let is : c.deref.result.now ≡ c.fill_lies.new.told = c.deref.ensures.value
     ∙ with_items_is c.args.room.now.lies c.fill_lies.new.told long in
     let size = ap (λ (xs : List State). length xs) is ∙ c.fill_lies.ensures.told.size in
-    c.advance_shared.ensures.out config ids c.requires.stands
+    c.advance_shared.ensures.out
+    ∙ ap (λ faulty. written (plan_depth plan) (step_of plan hearer.v
+    (heard_with faulty c.told.result.now config)) c.args.room.now.out)
+    (ap (λ (s : Shares). s.faulty) c.requires.stands)
     ∙ ap (λ (s : State). written (plan_depth plan) s c.args.room.now.out)
     (step_taken plan (plan_nodes plan) ids (g.L.Lies.says c.args.lies.now config) config hearer.v
     hearer.size hearer.node c.facts.ensures.rising c.len-liars.result c.deref.result.now

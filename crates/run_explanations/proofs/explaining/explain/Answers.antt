@@ -1,20 +1,21 @@
-use Rattle.std.proofs.Common.{refl, sym, subst}
-use Rattle.run_explanations.specs.Explanations.{IsFirstOrNone}
-use Rattle.run_explanations.proofs.Taking.{read_begin, value_is}
+use Rattle.std.proofs.Common.{[], ap, subst, arith}
+use Rattle.adversary_script.specs.Scripts.{Script}
+use Rattle.run_explanations.specs.Playing.{HasPlayed}
+use Rattle.run_explanations.proofs.Taking.{played_on}
 use Rattle.run_explanations.proofs.explaining.explain.Goals as goal
 
-pub first_found-requires : goal.first_found-requires
-first_found-requires c =
-    read_begin c.args.plan.now _ c.args.runner.now c.requires.start c.requires.level
-    c.top_of.result.small c.top_of.ensures
+pub skip_to-requires-clause-from : goal.skip_to-requires-clause-from
+skip_to-requires-clause-from c =
+    let rounds = ap (λ (s : Script). s.rounds) c.first_explanation.ensures.played.script in
+    omega (arith, rounds, c.first_explanation.ensures.within, c.script.ensures, c.rounds.ensures)
 
-pub returns-clause-value : goal.returns-clause-value
-returns-clause-value c =
-    value_is c.args.plan.now c.top_of.result.numbers _ c.args.runner.now c.first_found.result
-    c.requires.start.plan_is c.top_of.ensures refl c.first_found.ensures.found
+pub skip_to-requires-clause-within : goal.skip_to-requires-clause-within
+skip_to-requires-clause-within c = ?
 
-pub returns-clause-first : goal.returns-clause-first
-returns-clause-first c =
-    subst (IsFirstOrNone c.args.plan.now c.args.runner.now.script) (sym (returns-clause-value c))
-    (c.found_is_first.ensures c.args.plan.now c.args.runner.now.script c.facts.ensures.accepted
-    c.requires.level)
+pub returns-clause-played : goal.returns-clause-played
+returns-clause-played c =
+    let first = c.first_explanation.ensures.played in
+    let rounds = ap (λ (s : Script). s.rounds) first.script in
+    subst (λ t. HasPlayed c.args.runner.now t c.skip_to.new.self) rounds
+    (played_on c.args.runner.now _ _ _ _ first c.skip_to.ensures.skipped
+    (c.skip_to.ensures.played [] first.plays))

@@ -110,3 +110,6 @@ returns-clause-knows c =
     let is = c.loop-runner.invariant in
     known_then _ _ _ _ _ is.found is.played is.within
     (c.is_enough.ensures.0 c.loop-runner-test.false)
+
+pub returns-clause-within : goal.returns-clause-within
+returns-clause-within c = c.loop-runner.invariant.within

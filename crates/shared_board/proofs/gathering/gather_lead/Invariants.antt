@@ -1,4 +1,4 @@
-use Rattle.std.proofs.Common.{ℕ, ◌+◌, ◌*◌, ◌<◌, ◌≤◌, length, slice_index_or, None}
+use Rattle.std.proofs.Common.{◌≡◌, ℕ, ◌+◌, ◌*◌, ◌<◌, length, slice_index_or, None}
 use Rattle.majority_votes.specs.Votes.{Votes}
 use Rattle.shared_board.specs.Senders.{correct_in}
 use Rattle.shared_board.specs.Votes.{IsVote, HasVotesIn}
@@ -12,5 +12,5 @@ invariant-loop-i g l =
     (l.site.first + j * l.site.size) l.site.size (slice_index_or l.votes j None)
     (slice_index_or l.pointers j none))
     × HasVotesIn (length l.site.intervals.now) l.site.size l.votes l.pointers
-    × (l.steps ≤ l.initial.steps + length
+    × (l.steps ≡ l.initial.steps + length
     (correct_in l.site.senders.now l.site.first (l.i * l.site.size)))

@@ -8,7 +8,6 @@ use Rattle.construction.specs.PhaseKing.{incremented, up}
 use Rattle.shared_board.proofs.Obeys.{king_within, king_obeys, zeroth_obeys, first_obeys}
 use Rattle.shared_board.proofs.Obeys.{room_for_lies, least_laid}
 use Rattle.shared_board.proofs.obeying.obey.Goals as goal
-use Rattle.shared_board.proofs.obeying.obey.Goals.{in-Some, in-None}
 
 -- the king's value, or the own one
 pub returns-then-beat-eq2-clause-register : goal.returns-then-beat-eq2-clause-register
@@ -36,8 +35,8 @@ count-requires g c =
           c.lies_in-lies.result.lies.now values c.lies_in-lies.ensures.lies,
     )
 
-pub count-same-requires : goal.count-same-requires
-count-same-requires g c =
+pub count-requires-in-Some : goal.count-requires-in-Some
+count-requires-in-Some g c =
     let at = c.args.hearing.now in
     let one = kind_one c.args.beat c.if-beat-eq2.false c.if-beat-eq0.false in
     let values = c.requires.values (omega (arith, one)) in
@@ -49,8 +48,8 @@ count-same-requires g c =
           c.lies_in-lies.result.lies.now values c.lies_in-lies.ensures.lies,
     )
 
-pub least-least-requires : goal.least-least-requires
-least-least-requires g c =
+pub count_and_least-same-requires : goal.count_and_least-same-requires
+count_and_least-same-requires g c =
     let at = c.args.hearing.now in
     let one = kind_one c.args.beat c.if-beat-eq2.false c.if-beat-eq0.false in
     let values = c.requires.values (omega (arith, one)) in
@@ -77,28 +76,21 @@ returns-then-beat-eq0-clause-register g c =
     let with : ℕ → Reg = λ same. incremented (up nums.modulus)
     (record { a = if nat_le (nums.nodes - nums.faults) same then own.a else None; d = own.d }) in
     c.obey_zeroth.ensures
-    ∙ ap with c.count.ensures
+    ∙ ap with c.count.ensures.count
     ∙ (ap (λ h. after (c.args.values.now.values ++ map (λ t. (register_at h t).a) slice))
     c.lies_in-lies.ensures.height
     ∙ zeroth_obeys at.senders.now nums at.first c.args.beat own at.lies.now at.told at.within
     c.args.values.now.values slice c.if-beat-eq0.true values c.lies_in-lies.ensures.lies)
 
-pub returns-clause-register : goal.returns-clause-register
-returns-clause-register g c =
+-- the least value is known
+pub returns-in-Some-clause-register : goal.returns-in-Some-clause-register
+returns-in-Some-clause-register g c =
     let at = c.args.hearing.now in
     let nums = at.nums.now in
     let own = c.args.own in
     let one = kind_one c.args.beat c.if-beat-eq2.false c.if-beat-eq0.false in
     let values = c.requires.values (omega (arith, one)) in
     let slice = c.lies_in-lies.result.lies.now in
-    let after : List (Option ℕ) → Reg = λ heard. incremented (up nums.modulus)
-    (record {
-      a = least_above nums.faults heard;
-      d =
-          nat_le (nums.nodes - nums.faults) (count_of heard own.a);
-    }) in
-    let with : Option ℕ → ℕ → Reg = λ least same. incremented (up nums.modulus)
-    (record { a = least; d = nat_le (nums.nodes - nums.faults) same }) in
     let h = c.lies_in-lies.result.height in
     let heard = c.args.values.now.values ++ map (λ t. (register_at h t).a) slice in
     let known = subst (λ h. IfSome c.args.least
@@ -108,16 +100,39 @@ returns-clause-register g c =
     (least_laid at.senders.now nums at.first c.args.beat own at.lies.now at.told at.within
     c.args.least c.requires.least c.args.values.now.values slice values
     c.lies_in-lies.ensures.lies) in
-    let least : c.match-least.least ≡ least_above nums.faults heard =
-    elim c.match-least.branch [
-      | in-Some w ↦ w.least-is ∙ sym (subst (λ o. IfSome o (λ m. least_above nums.faults heard ≡ m))
-          w.in-Some.is known)
-      | in-None w ↦ w.least-is ∙ w.least-least.ensures.least
-    ] in
+    let least : c.in-Some.least ≡ least_above nums.faults heard =
+    sym (subst (λ o. IfSome o (λ m. least_above nums.faults heard ≡ m)) c.in-Some.is known) in
+    let with : Option ℕ → ℕ → Reg = λ least same. incremented (up nums.modulus)
+    (record { a = least; d = nat_le (nums.nodes - nums.faults) same }) in
+    let after : ℕ → Reg = λ h.
+    let heard = c.args.values.now.values ++ map (λ t. (register_at h t).a) slice in
+    with (least_above nums.faults heard) (count_of heard own.a) in
     c.obey_first.ensures
-    ∙ ap (λ l. with l c.count-same.result) least
-    ∙ ap (with (least_above nums.faults heard)) c.count-same.ensures
-    ∙ (ap (λ h. after (c.args.values.now.values ++ map (λ t. (register_at h t).a) slice))
-    c.lies_in-lies.ensures.height
+    ∙ (ap (λ l. with l c.count-in-Some.result) least
+    ∙ (ap (with (least_above nums.faults heard)) c.count-in-Some.ensures.count
+    ∙ (ap after c.lies_in-lies.ensures.height
     ∙ first_obeys at.senders.now nums at.first c.args.beat own at.lies.now at.told at.within
-    c.args.values.now.values slice one values c.lies_in-lies.ensures.lies)
+    c.args.values.now.values slice one values c.lies_in-lies.ensures.lies)))
+
+-- it is that of all values, those of the lies among them
+pub returns-in-None-clause-register : goal.returns-in-None-clause-register
+returns-in-None-clause-register g c =
+    let at = c.args.hearing.now in
+    let nums = at.nums.now in
+    let own = c.args.own in
+    let one = kind_one c.args.beat c.if-beat-eq2.false c.if-beat-eq0.false in
+    let values = c.requires.values (omega (arith, one)) in
+    let slice = c.lies_in-lies.result.lies.now in
+    let h = c.lies_in-lies.result.height in
+    let heard = c.args.values.now.values ++ map (λ t. (register_at h t).a) slice in
+    let with : Option ℕ → ℕ → Reg = λ least same. incremented (up nums.modulus)
+    (record { a = least; d = nat_le (nums.nodes - nums.faults) same }) in
+    let after : ℕ → Reg = λ h.
+    let heard = c.args.values.now.values ++ map (λ t. (register_at h t).a) slice in
+    with (least_above nums.faults heard) (count_of heard own.a) in
+    c.obey_first-in-None.ensures
+    ∙ (ap (λ l. with l c.count_and_least-same.result.0) c.count_and_least-same.ensures.least
+    ∙ (ap (with (least_above nums.faults heard)) c.count_and_least-same.ensures.count
+    ∙ (ap after c.lies_in-lies.ensures.height
+    ∙ first_obeys at.senders.now nums at.first c.args.beat own at.lies.now at.told at.within
+    c.args.values.now.values slice one values c.lies_in-lies.ensures.lies)))

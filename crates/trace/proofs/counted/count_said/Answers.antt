@@ -5,28 +5,21 @@ use Rattle.counter_core.specs.HeardRegisters.{RegisterHeard, values_heard}
 use Rattle.halving_plan.specs.LevelStates.{LevelState, values_of}
 use Rattle.halving_plan.specs.GroupStates.{section}
 use Rattle.halving_plan.specs.GroupHearing.{level_states_in}
-use Rattle.halving_plan.proofs.GroupHeard.{marks_left, marks_right, values_are}
+use Rattle.halving_plan.proofs.GroupHeard.{saw_is, values_are}
 use Rattle.trace.proofs.counted.count_said.Goals as goal
 
-pub returns-clause-left : goal.returns-clause-left
-returns-clause-left c =
-    c.count_group-counts.ensures.saw_left
-    ∙ marks_left c.args.seen.now.group c.args.seen.now.heard.now
-
-pub returns-clause-right : goal.returns-clause-right
-returns-clause-right c =
-    c.count_group-counts.ensures.saw_right
-    ∙ marks_right c.args.seen.now.group c.args.seen.now.heard.now
+pub returns-clause-saw : goal.returns-clause-saw
+returns-clause-saw c =
+    let group = c.args.seen.now.group in
+    c.count_group-counts.ensures.saw ∙ saw_is group c.args.own.now.seen c.args.seen.now.heard.now
 
 pub returns-clause-same : goal.returns-clause-same
 returns-clause-same c =
     let group = c.args.seen.now.group in
     let heard = c.args.seen.now.heard.now in
     c.count_group-counts.ensures.same
-    ∙ (ap (λ (values : List (Option _)). count_of values c.own.inside.register.a)
+    ∙ ap (λ (values : List (Option _)). count_of values c.args.own.now.register.a)
     (values_are group heard)
-    ∙ ap (λ (p : LevelState). count_of (values_of (level_states_in group heard)) p.register.a)
-    c.own.view_is)
 
 pub returns-clause-least : goal.returns-clause-least
 returns-clause-least c =

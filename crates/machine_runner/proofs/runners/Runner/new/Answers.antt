@@ -1,10 +1,13 @@
-use Rattle.std.proofs.Common.{Bool, List, ◌∷◌, length, None, replicate, refl, sym, ap, ◌∙◌, arith}
+use Rattle.std.proofs.Common.{◌≡◌, Bool, List, ◌∷◌, length, None, replicate, refl, sym, ap, ◌∙◌, arith}
+use Rattle.std.specs.Vec.{with_items}
+use Rattle.std.proofs.lemmas.List.{with_items_is}
 use Rattle.sync_types.specs.FaultSets.{FaultIds}
 use Rattle.state_codec.specs.Packs.{Pack}
 use Rattle.machine_runner.specs.FirstLocked.{first_of}
 use Rattle.machine_runner.specs.Locks.{is_locked}
 use Rattle.machine_runner.proofs.Firsts.{begun_era}
 use Rattle.machine_runner.proofs.Keeping.{locks_begin, locks_long}
+use Rattle.machine_runner.proofs.Laid.{room_laid}
 use Rattle.machine_runner.proofs.runners.Runner.new.Goals as goal
 
 pub invariant_of-result : goal.invariant_of-result
@@ -13,6 +16,12 @@ invariant_of-result g c =
     let script = c.args.script in
     let room = c.in_ok-room.ensures in
     let whole = c.requires.read.whole in
+    let laid : (with_items c.in_ok-room.room.heard c.lay.new.heard).items
+    ≡ c.start_all.new.states.current =
+    with_items_is c.in_ok-room.room.heard c.lay.new.heard
+    (c.lay.auto.heard ∙ c.deref_mut.ensures.len) ∙ c.lay.ensures in
+    let shape = c.start_all.ensures.shape
+    ∙ (ap (λ (p : Pack). p.shape) c.in_ok-states.ensures ∙ sym c.requires.shape) in
     let locks = c.in_ok-locks.ensures
     ∙ ap (λ (b : Bool). first_of None b 0 ∷ replicate (length script.eras) None)
     (c.is_locked-locked.ensures
@@ -24,13 +33,14 @@ invariant_of-result g c =
       read = c.requires.read;
       ready = record {
         noise = c.start_all.ensures.noise;
-        heard = room.heard;
+        heard = room_laid script c.start_all.new.states.shape c.start_all.new.states.current _
+            laid shape c.start_all.ensures.size c.facts-3.ensures.current;
         work = room.work;
         out = c.start_all.ensures.out;
       };
-      shape = c.start_all.ensures.shape
-          ∙ (ap (λ (p : Pack). p.shape) c.in_ok-states.ensures ∙ sym c.requires.shape);
+      shape = shape;
       size = c.start_all.ensures.size;
+      laid = laid;
       played = c.start_all.ensures.states;
       within = omega (arith);
       here = sym (begun_era script whole.formed.rising 0 0 (omega (arith)) refl);

@@ -1,4 +1,6 @@
-use Rattle.std.proofs.Common.{◌+◌, Bool, ◌∷◌, length, None, replicate, sym, ap, ◌∙◌, subst}
+use Rattle.std.proofs.Common.{◌≡◌, ◌+◌, Bool, ◌∷◌, length, None, replicate, sym, ap, ◌∙◌, subst}
+use Rattle.std.specs.Vec.{with_items}
+use Rattle.std.proofs.lemmas.List.{with_items_is}
 use Rattle.sync_types.specs.FaultSets.{FaultIds}
 use Rattle.adversary_script.specs.Scripts.{Script}
 use Rattle.machine_runner.specs.FirstLocked.{first_of}
@@ -6,6 +8,7 @@ use Rattle.machine_runner.specs.Laws.{IsReadFor}
 use Rattle.machine_runner.specs.Locks.{is_locked}
 use Rattle.machine_runner.proofs.Keeping.{locks_begin}
 use Rattle.machine_runner.proofs.Rekeyed.{read_still, kept_anew, begun_anew}
+use Rattle.machine_runner.proofs.Laid.{room_laid}
 use Rattle.machine_runner.proofs.runners.Runner.restart.Goals as goal
 
 pub start_all-requires-clause-config : goal.start_all-requires-clause-config
@@ -45,12 +48,20 @@ invariant_of-self g c =
     let started = c.start_all.ensures in
     let read : IsReadFor machine now = subst (λ (s : Script). IsReadFor machine s) (sym same)
     (read_still script c.args.key machine kept.read) in
-    kept_anew script c.args.key machine c.self.inside.room c.start_all.new.noise
+    let laid : (with_items c.self.inside.room.heard c.lay.new.heard).items
+    ≡ c.start_all.new.states.current =
+    with_items_is c.self.inside.room.heard c.lay.new.heard
+    (c.lay.auto.heard ∙ c.deref_mut.ensures.len) ∙ c.lay.ensures in
+    let shape = started.shape ∙ kept.shape in
+    let size = started.size ∙ ap (λ (s : Script). s.nodes) same in
+    kept_anew script c.args.key machine c.self.inside.room c.start_all.new.noise _
     c.start_all.new.out c.self.inside.states c.start_all.new.states
     c.self.inside.locks.items c.begin_locks.new.locks.items c.self.inside.at c.self.inside.era now
     same kept (started.noise ∙ ap (λ (s : Script). s.key) same)
+    (room_laid script c.start_all.new.states.shape c.start_all.new.states.current _ laid shape size
+    c.facts-2.ensures.current) laid
     (started.out ∙ ap (λ (s : Script). s.shape.depth) same) started.shape
-    (started.size ∙ ap (λ (s : Script). s.nodes) same) started.states
+    size started.states
     (c.begin_locks.ensures
     ∙ ap (λ (b : Bool). first_of None b 0 ∷ replicate (length now.eras) None)
     (c.is_locked-locked.ensures

@@ -16,26 +16,12 @@ loop-v-init g c =
     let machine = g.M.Machine.machine c.args.machine.now in
     let script = c.args.self.now.script.now in
     let config = c.args.states.now.current in
-    let shape = c.args.states.now.shape in
-    let laid = with_items_is c.args.room.now.heard c.lay.new.heard
-    (c.lay.auto.heard ∙ c.deref_mut.ensures.len) ∙ c.lay.ensures in
+    let laid = c.requires.laid in
     record {
       filled = none_filled (state_after machine script c.args.self.now.t config) script.nodes _
           (c.facts.ensures.size ∙ c.requires.config.size);
       fixed = refl;
-      ready = record {
-        noise = c.requires.room.noise;
-        heard = record {
-          size = ap (λ (xs : List State). length xs) laid ∙ c.requires.config.size;
-          deep = subst (λ (xs : List State).
-              All (λ (s : State). length s.registers ≡ script.shape.depth) xs) (sym laid)
-              (all_places (λ (s : State). length s.registers ≡ script.shape.depth) config (λ u lt.
-              depth_of_node shape u _ (c.facts.ensures.current u lt)
-              ∙ ap (λ (s : Shape). s.depth) c.requires.config.shape));
-        };
-        work = c.requires.room.work;
-        out = c.requires.room.out;
-      };
+      ready = c.requires.room;
       honest = λ u lt correct. ap (λ (xs : List State). state_of xs u) laid;
     }
 

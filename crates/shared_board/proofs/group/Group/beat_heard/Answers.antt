@@ -3,16 +3,17 @@ use Rattle.std.proofs.Common.{subst, refl, arith}
 use Rattle.std.proofs.lemmas.Nat.{mul-le}
 use Rattle.majority_votes.specs.Votes.{Votes}
 use Rattle.sync_types.specs.States.{State}
-use Rattle.shared_board.specs.Senders.{Sent, parts_of}
+use Rattle.shared_board.specs.Senders.{Sent, liars_in, parts_of}
 use Rattle.shared_board.specs.Votes.{IsKnown, AreVotes, blocks_lead}
 use Rattle.shared_board.specs.GroupVotes.{contents, IsGroup, lead_heard}
 use Rattle.shared_board.specs.declared.group.Group.{Group}
 use Rattle.shared_board.proofs.Known.{lead_below, agrees}
 use Rattle.shared_board.proofs.Groups.{facts}
+use Rattle.shared_board.proofs.Heard.{liars_block, liars_front}
 use Rattle.shared_board.proofs.group.Group.beat_heard.Goals as goal
 
 pub invariant_of-site : goal.invariant_of-site
-invariant_of-site c =
+invariant_of-site g c =
     let f = facts c.args.self.now c.requires.stands.room in
     let n : ℕ = c.args.self.now.block in
     let long : length c.deref.result.now ≡ c.args.self.now.nums.blocks =
@@ -31,7 +32,7 @@ invariant_of-site c =
 
 -- what is known and counted, by the names of the call
 pub invariant_of-asking : goal.invariant_of-asking
-invariant_of-asking c =
+invariant_of-asking g c =
     let group = c.args.self.now in
     let s = c.args.hearing.now.senders.now in
     let n : ℕ = group.block in
@@ -90,7 +91,7 @@ lead_in group room s intervals leaders lies lead e is =
     )
 
 pub start-requires : goal.start-requires
-start-requires c =
+start-requires g c =
     let group = c.args.self.now in
     let room = c.requires.stands.room in
     let f = facts group room in
@@ -98,31 +99,31 @@ start-requires c =
     omega (
       arith,
       lead_in group room hearing.senders.now c.deref.result.now c.from.result hearing.lies.now
-          c.lead-lead.result c.from.ensures c.lead-lead.ensures,
+          c.lead-lead.result c.from.ensures c.lead-lead.ensures.lead,
       f.few_leaders,
       ap length c.deref.ensures.value ∙ f.long,
     )
 
 pub index-requires : goal.index-requires
-index-requires c =
+index-requires g c =
     let group = c.args.self.now in
     let room = c.requires.stands.room in
     let hearing = c.args.hearing.now in
     omega (
       arith,
       lead_in group room hearing.senders.now c.deref.result.now c.from.result hearing.lies.now
-          c.lead-lead.result c.from.ensures c.lead-lead.ensures,
+          c.lead-lead.result c.from.ensures c.lead-lead.ensures.lead,
       room.parts,
     )
 
 pub most-requires-clause-within : goal.most-requires-clause-within
-most-requires-clause-within c =
+most-requires-clause-within g c =
     let group = c.args.self.now in
     let room = c.requires.stands.room in
     let f = facts group room in
     let hearing = c.args.hearing.now in
     let lead = lead_in group room hearing.senders.now c.deref.result.now c.from.result
-    hearing.lies.now c.lead-lead.result c.from.ensures c.lead-lead.ensures in
+    hearing.lies.now c.lead-lead.result c.from.ensures c.lead-lead.ensures.lead in
     omega (
       arith,
       c.start.ensures,
@@ -133,7 +134,7 @@ most-requires-clause-within c =
     )
 
 pub most-requires-clause-stands : goal.most-requires-clause-stands
-most-requires-clause-stands c =
+most-requires-clause-stands g c =
     let group = c.args.self.now in
     let room = c.requires.stands.room in
     let s = c.args.hearing.now.senders.now in
@@ -142,7 +143,7 @@ most-requires-clause-stands c =
     let lead = c.lead-lead.result in
     let poll = c.index.result.now in
     let is : lead ≡ lead_heard s (contents group) lies =
-    c.lead-lead.ensures
+    c.lead-lead.ensures.lead
     ∙ (ap (λ is. blocks_lead s lies is c.from.result group.first group.block) c.deref.ensures.value
     ∙ ap (λ m. blocks_lead s lies group.intervals.items m group.first group.block)
     c.from.ensures) in
@@ -152,18 +153,46 @@ most-requires-clause-stands c =
           ap (λ (v : Votes). v.values) c.index.ensures
           ∙ (counted.parts c.in_default.is lead poll
           (lead_in group room s c.deref.result.now c.from.result lies lead c.from.ensures
-          c.lead-lead.ensures)
+          c.lead-lead.ensures.lead)
           (agrees s (lead_heard s (contents group)) group.lead counted.lead lies
           c.args.hearing.now.told lead is)
           ∙ ap (λ a. parts_of s group.nums.beat a group.block) (sym c.start.ensures));
     }
 
 pub most-requires-clause-room : goal.most-requires-clause-room
-most-requires-clause-room c =
+most-requires-clause-room g c =
     let group = c.args.self.now in
     let room = c.requires.stands.room in
     let hearing = c.args.hearing.now in
     let lead = lead_in group room hearing.senders.now c.deref.result.now c.from.result
-    hearing.lies.now c.lead-lead.result c.from.ensures c.lead-lead.ensures in
+    hearing.lies.now c.lead-lead.result c.from.ensures c.lead-lead.ensures.lead in
     subst (λ (v : Votes). group.block ≤ v.capacity) (sym c.index.ensures)
     (room.parts_room c.lead-lead.result c.index.result.now (omega (arith, lead, room.parts)))
+
+-- two at most for each liar: one by the blocks, and one by that which leads
+pub returns-clause-steps : goal.returns-clause-steps
+returns-clause-steps g c =
+    let group = c.args.self.now in
+    let room = c.requires.stands.room in
+    let f = facts group room in
+    let n : ℕ = group.block in
+    let nodes : ℕ = group.nums.nodes in
+    let hearing = c.args.hearing.now in
+    let s = hearing.senders.now in
+    let lead = c.lead-lead.result in
+    let below = lead_in group room s c.deref.result.now c.from.result
+    hearing.lies.now lead c.from.ensures c.lead-lead.ensures.lead in
+    let long : length c.deref.result.now ≡ group.nums.blocks =
+    ap length c.deref.ensures.value ∙ f.long in
+    let fits : length c.deref.result.now * n ≡ group.nums.blocks * n = ap (λ k. k * n) long in
+    let last : (lead + 1) * n ≤ group.nums.blocks * n =
+    mul-le (lead + 1) n group.nums.blocks n (omega (arith, below, f.few_leaders)) (omega arith) in
+    omega (
+      arith,
+      c.lead-lead.ensures.steps,
+      c.most.ensures.steps,
+      ap (λ a. liars_in s a n) c.start.ensures,
+      liars_block s group.first lead n nodes (omega (arith, last, f.size)),
+      liars_front s group.first (length c.deref.result.now * n) nodes
+          (omega (arith, fits, f.size)),
+    )

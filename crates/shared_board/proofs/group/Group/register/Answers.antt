@@ -24,7 +24,7 @@ returns-clause-register g c =
 -- the beat is one
 pub obey-requires-clause-beat : goal.obey-requires-clause-beat
 obey-requires-clause-beat g c =
-    subst (λ b. b < c.args.self.now.nums.beat) (sym c.beat_heard-beat.ensures)
+    subst (λ b. b < c.args.self.now.nums.beat) (sym c.beat_heard-beat.ensures.beat)
     (beat_below c.args.senders.now
     (contents c.args.self.now) c.requires.stands.room c.args.lies.now)
 
@@ -36,5 +36,5 @@ returns-2-clause-register g c =
     c.obey.ensures.register
     ∙ obeyed s group.nums c.requires.stands.room.numbers group.first c.args.node c.args.lies.now
     c.beat_heard-beat.result c.register-own.result c.register-own.ensures
-    (c.beat_heard-beat.ensures
+    (c.beat_heard-beat.ensures.beat
     ∙ beat_of_group s (contents group) c.requires.stands.room c.args.lies.now)

@@ -26,18 +26,29 @@ most-requires g c =
     )
 
 -- the numbers of the correct nodes and of the lies
-pub returns-in-None : goal.returns-in-None
-returns-in-None g c =
+pub returns-in-None-clause-most : goal.returns-in-None-clause-most
+returns-in-None-clause-most g c =
     let at = c.args.self.now in
     let s = at.senders.now in
     let reads = g.R.Reading.reads c.args.reading.now in
     let values = c.requires.stands.counted c.in-None.is in
     let by : List (Option ℕ) → ℕ → List State
     → ℕ = λ vs h ts. unwrap_or (majority_of (vs ++ map (λ t. Some (reads (shown h t))) ts)) 0 in
-    c.most.ensures
+    c.most.ensures.most
     ∙ (ap (λ vs. by vs c.lies_in.result.height c.lies_in.result.lies.now) values
     ∙ (ap (λ h. by (numbers_of s reads c.args.first c.args.count) h c.lies_in.result.lies.now)
     c.lies_in.ensures.height
     ∙ (ap (λ ts. by (numbers_of s reads c.args.first c.args.count) s.height ts)
     c.lies_in.ensures.lies
     ∙ sym (number_heard s at.lies.now at.told c.args.first c.args.count c.requires.within reads))))
+
+-- there are as many lies as liars
+pub returns-in-None-clause-steps : goal.returns-in-None-clause-steps
+returns-in-None-clause-steps g c =
+    let at = c.args.self.now in
+    omega (
+      arith,
+      c.most.ensures.steps,
+      ap length c.lies_in.ensures.lies,
+      lies_long at.senders.now at.lies.now at.told c.args.first c.args.count c.requires.within,
+    )

@@ -6,12 +6,12 @@ use Rattle.shared_board.proofs.laying.Lies.count.Goals as goal
 
 -- a value is held by no more places than there are
 pub overflow_add-count : goal.overflow_add-count
-overflow_add-count c =
+overflow_add-count g c =
     let value : State → Option ℕ = λ s. (register_at c.args.self.now.height s).a in
     let front = take c.loop-lie.lie-index c.args.self.now.lies.now in
     omega (
       arith,
-      c.loop-lie.invariant,
+      c.loop-lie.invariant.0,
       c.loop-lie-test.true,
       c.requires,
       c.capacity-room.ensures,

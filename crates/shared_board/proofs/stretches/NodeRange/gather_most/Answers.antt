@@ -63,7 +63,7 @@ returns-clause-most g c =
     ) in
     let stays = common_stays s reads block.first block.count c.in-Some.output more all
     (omega (arith, c.if-liars-self.true, c.liars.ensures))
-    (c.all_show.ensures.0 c.if-all_show.true) in
+    (c.all_show.ensures.show.0 c.if-all_show.true) in
     record {
       known = rw c.of-2.ensures
           (number_known s block.first block.count block.within reads

@@ -4,16 +4,16 @@ use Rattle.std.proofs.Common.{sym, ap, ◌∙◌, subst, arith}
 use Rattle.std.specs.Prelude.{◌==◌}
 use Rattle.std.specs.List.{range_with_len}
 use Rattle.std.proofs.lemmas.Bool.{eq-eqb, ne_eqb}
-use Rattle.std.proofs.lemmas.List.{with_items_is}
+use Rattle.std.proofs.lemmas.List.{length-map, with_items_is}
 use Rattle.sync_types.specs.declared.states.Reg.{Reg}
 use Rattle.sync_types.specs.States.{State}
-use Rattle.construction.specs.Plans.{Level, Plan, plan_depth}
+use Rattle.construction.specs.Plans.{Level, Plan, plan_depth, plan_nodes}
 use Rattle.construction.specs.PhaseKing.{up}
 use Rattle.construction.specs.Steps.{state_of, step_of}
-use Rattle.counter_core.specs.Meanings.{written}
+use Rattle.counter_core.specs.Meanings.{cut, written}
 use Rattle.plan_numbers.specs.Numbers.{levels_in}
 use Rattle.plan_laws.specs.PlanMeaning.{IsInRange}
-use Rattle.shared_board.specs.Sharing.{Shares, heard_with}
+use Rattle.shared_board.specs.Sharing.{Shares, heard_with, stands_for}
 use Rattle.shared_board.specs.Boards.{Board}
 use Rattle.tower.specs.declared.rows.Row.{Row}
 use Rattle.tower.specs.Placings.{Placing, Leads, row_register}
@@ -24,6 +24,13 @@ use Rattle.tower.proofs.Stepped.{place_less, can_step, step_is}
 use Rattle.tower.proofs.towers.Tower.advance_shared.Goals as goal
 use Rattle.tower.proofs.towers.Tower.advance_shared.Goals.{then-row-eq0, else-row-eq0}
 
+-- what stands for a configuration has as many states
+shared_size : (plan : Plan) (config : List State) (shares : Shares)
+    → shares ≡ stands_for plan config shares.faulty → length config ≡ plan_nodes plan
+    → length shares.states ≡ plan_nodes plan
+shared_size plan config shares stands size =
+    ap (λ (s : Shares). length s.states) stands ∙ (length-map config (cut (plan_depth plan)) ∙ size)
+
 pub write_registers-requires-clause-leads : goal.write_registers-requires-clause-leads
 write_registers-requires-clause-leads g c = λ l lt low.
     let inside = c.shared.inside in
@@ -33,7 +40,8 @@ write_registers-requires-clause-leads g c = λ l lt low.
     let levels : List Level = levels_in inside.levels.items in
     let board : Board = inside.board in
     let row : Row = c.index-row.result.now in
-    let has = has_node i c.shared.view_is c.requires.plan c.requires.size c.requires.node
+    let has = has_node i c.shared.view_is (ap (λ (s : Shares). s.plan) c.requires.stands)
+    (shared_size _ _ _ c.requires.stands c.requires.size) c.requires.node
     c.index-row.ensures in
     let less : l < length levels = omega (arith, lt, has.deep) in
     let long : length lies ≡ length board.faulty =
@@ -52,8 +60,9 @@ write_registers-requires-clause-leads g c = λ l lt low.
 
 pub write_registers-requires-clause-out : goal.write_registers-requires-clause-out
 write_registers-requires-clause-out g c =
-    let has = has_node c.shared.invariant c.shared.view_is c.requires.plan c.requires.size
-    c.requires.node c.index-row.ensures in
+    let has = has_node c.shared.invariant c.shared.view_is
+    (ap (λ (s : Shares). s.plan) c.requires.stands)
+    (shared_size _ _ _ c.requires.stands c.requires.size) c.requires.node c.index-row.ensures in
     let out = ap (λ (s : State). length s.registers) c.set_x.ensures in
     let depth = ap plan_depth has.plan_is in
     omega (arith, has.deep, out, depth, c.requires.out)
@@ -72,7 +81,10 @@ invariant_of-shared g c =
     (sym (with_items_is inside.groups new long ∙ same)) i
 
 pub returns-clause-out : goal.returns-clause-out
-returns-clause-out g c = λ config faulty stands.
+returns-clause-out g c =
+    let config = c.args.config.now.current in
+    let faulty = c.args.shared.now.faulty in
+    let stands = c.requires.stands in
     let inside = c.shared.inside in
     let i = c.shared.invariant in
     let plan : Plan = c.args.self.now in
@@ -81,7 +93,8 @@ returns-clause-out g c = λ config faulty stands.
     let levels : List Level = levels_in inside.levels.items in
     let board : Board = inside.board in
     let row : Row = c.index-row.result.now in
-    let has = has_node i c.shared.view_is c.requires.plan c.requires.size c.requires.node
+    let has = has_node i c.shared.view_is (ap (λ (s : Shares). s.plan) c.requires.stands)
+    (shared_size _ _ _ c.requires.stands c.requires.size) c.requires.node
     c.index-row.ensures in
     let out : State = c.args.out.now in
     let number : ℕ = (state_of board.states node).x in
@@ -120,8 +133,9 @@ returns-clause-out g c = λ config faulty stands.
 
 pub returns-clause-cost : goal.returns-clause-cost
 returns-clause-cost g c =
-    let has = has_node c.shared.invariant c.shared.view_is c.requires.plan c.requires.size
-    c.requires.node c.index-row.ensures in
+    let has = has_node c.shared.invariant c.shared.view_is
+    (ap (λ (s : Shares). s.plan) c.requires.stands)
+    (shared_size _ _ _ c.requires.stands c.requires.size) c.requires.node c.index-row.ensures in
     let faulty : List ℕ = c.shared.inside.board.faulty in
     let all : 3 * length c.index-row.result.now.places.items * length faulty
     ≡ 3 * plan_depth c.args.self.now * length c.args.shared.now.faulty =

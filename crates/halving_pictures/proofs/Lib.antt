@@ -1,3 +1,0 @@
-pub mod NoteLines
-pub mod Standing
-pub mod StandsApart
