@@ -37,7 +37,7 @@ struct state {
 static struct group whole;
 static int nodes, faults, behind; /* behind: a layer's registers, one or none */
 static uint64_t modulus, bound, layer_values;
-static int bytes_of[MOST_NODES], base_width[MOST_NODES], layer_at[MOST_NODES];
+static int bytes_of[MOST_NODES], base_width[MOST_NODES], layer_at[MOST_NODES], layer_width;
 /* depth_of: how many groups of a node have halves; is_alone: whether it is alone in a group below */
 static int depth_of[MOST_NODES], is_alone[MOST_NODES];
 static struct level levels_of[MOST_NODES][MOST_LEVELS];
@@ -92,7 +92,7 @@ static void set_node(int v) {
         at += levels_of[v][j].value_width + levels_of[v][j].seen_width + 2;
     }
     layer_at[v] = at;
-    bytes_of[v] = (at + behind * (width(layer_values + 1) + 1) + 7) / 8;
+    bytes_of[v] = (at + behind * (layer_width + 1) + 7) / 8;
 }
 
 static int common_of(int u, int v) {
@@ -108,7 +108,7 @@ static void put_group(int count, int borne, uint64_t by) {
 
 /* Where each node stands in the groups, and how its state is written, with a layer's registers. */
 static void end_plan(int registers_behind, uint64_t values) {
-    behind = registers_behind, layer_values = values;
+    behind = registers_behind, layer_values = values, layer_width = width(values + 1);
     for (int v = 0; v < nodes; v++) set_node(v);
     for (int u = 0; u < nodes; u++)
         for (int v = 0; v < nodes; v++) common[u][v] = (uint8_t)common_of(u, v);
@@ -149,10 +149,10 @@ static void read_state(int v, const uint8_t *bytes, struct state *s) {
     if (levels_read == MOST_LEVELS) memset(s, 0, sizeof *s);
     read_levels(v, bytes, levels_read, s);
     if (behind == 0) return;
-    int at = layer_at[v], bits = width(layer_values + 1);
-    uint64_t value = bits_at(bytes, at, bits);
+    int at = layer_at[v];
+    uint64_t value = bits_at(bytes, at, layer_width);
     s->layer.value = value < layer_values ? value : INFINITE;
-    at += bits, s->layer.marked = bytes[at / 8] >> (7 - at % 8) & 1;
+    at += layer_width, s->layer.marked = bytes[at / 8] >> (7 - at % 8) & 1;
 }
 
 static void write_state(int v, const struct state *s, uint8_t *bytes) {

@@ -12,6 +12,7 @@ enum kind { NOISE, COPY, HEX, SHIFT };
 struct rule {
     uint64_t from, to;
     int sender, node;
+    struct rule *next; /* of the same sender */
     char hears[MOST_NODES];
     enum kind kind;
     uint64_t by;
@@ -28,7 +29,7 @@ struct era {
 };
 
 static int script_version, rule_count, era_count, is_noisy;
-static struct rule rules[MOST_RULES];
+static struct rule rules[MOST_RULES], *rules_of[MOST_NODES]; /* of each sender the first one */
 static struct era eras[MOST_ERAS];
 static uint32_t key[8];
 static uint64_t rounds, shown_from, shown_to;
@@ -181,6 +182,14 @@ static void read_rule(char names[][20], char members[][MOST_NODES], int groups) 
     } else rule->kind = NOISE;
 }
 
+/* Puts the rules of each sender one behind the other. */
+static void part_rules(void) {
+    for (int i = rule_count - 1; i >= 0; i--) {
+        rules[i].next = rules_of[rules[i].sender];
+        rules_of[rules[i].sender] = &rules[i];
+    }
+}
+
 static void read_rules(void) {
     static char names[256][20], members[256][MOST_NODES];
     int groups = 0;
@@ -189,6 +198,7 @@ static void read_rules(void) {
         for (int i = 2; i < word_count; i++) members[groups][id_at(i)] = 1;
     }
     for (; is_line("lie", 7); next_line()) read_rule(names, members, groups);
+    part_rules();
 }
 
 static void read_script(void) {
@@ -230,9 +240,8 @@ static void begin_run(void) {
 
 /* What node v hears of the faulty node u in round t. */
 static void lie(uint64_t t, int u, int v, struct state *s) {
-    for (int i = 0; i < rule_count; i++) {
-        const struct rule *rule = &rules[i];
-        if (rule->sender != u || t < rule->from || t > rule->to || !rule->hears[v]) continue;
+    for (const struct rule *rule = rules_of[u]; rule; rule = rule->next) {
+        if (t < rule->from || t > rule->to || !rule->hears[v]) continue;
         if (rule->kind == NOISE)
             noise(u, &streams[v * nodes + u], 256 * (uint64_t)u + (uint64_t)v, t, s);
         else if (rule->kind == COPY) *s = copied(u, rule->node);

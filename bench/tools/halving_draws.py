@@ -6,11 +6,16 @@
     python3 bench/tools/halving_draws.py FIRST COUNT ./halving_run
     python3 bench/tools/halving_draws.py FIRST COUNT crates/halvinglab/out/halvinglab run
 
+    python3 bench/tools/halving_draws.py write FIRST COUNT FOLDER
+    python3 bench/tools/halving_draws.py read FOLDER crates/halvinglab/out/halvinglab run
+
 Each number from FIRST on is a script: a plan of 1 to 22 nodes, starts, up to four eras, groups, and
 lies of each kind. Printed is how many were compared; the first one that differs is printed, and the
-status is 1.
+status is 1. `write` puts the inputs and the answers into a folder, as `drawn_runs.py` does, from which
+`read` takes them.
 """
 
+import pathlib
 import random
 import subprocess
 import sys
@@ -80,17 +85,49 @@ class Draw:
         return "".join(line + "\n" for line in lines)
 
 
-def main(first, count, program):
+def written(text):
+    """What is to be written of a script."""
+    return "".join(line + "\n" for line in answer("run", text))
+
+
+def drawn(first, count):
+    """Scripts, each with what is to be written of it."""
     for number in range(first, first + count):
         text = Draw(number).text()
-        wanted = "".join(line + "\n" for line in answer("run", text))
+        yield text, written(text)
+
+
+def write(first, count, folder):
+    folder.mkdir(parents=True, exist_ok=True)
+    for number, (text, wanted) in zip(range(first, first + count), drawn(first, count)):
+        (folder / f"{number:05}").write_text(text)
+        (folder / f"{number:05}.stdout").write_text(wanted)
+
+
+def kept(folder):
+    for path in sorted(folder.glob("*.stdout")):
+        yield path.with_suffix("").read_text(), path.read_text()
+
+
+def compare(scripts, program):
+    count = 0
+    for text, wanted in scripts:
         said = subprocess.run(program, input=text.encode(), stdout=subprocess.PIPE).stdout.decode()
         if said != wanted:
             print(text, end="")
             return 1
+        count += 1
     print(f"{count} scripts compared, none answered otherwise")
     return 0
 
 
+def main(words):
+    if words[0] == "write":
+        return write(int(words[1]), int(words[2]), pathlib.Path(words[3]))
+    if words[0] == "read":
+        return compare(kept(pathlib.Path(words[1])), words[2:])
+    return compare(drawn(int(words[0]), int(words[1])), words[2:])
+
+
 if __name__ == "__main__":
-    sys.exit(main(int(sys.argv[1]), int(sys.argv[2]), sys.argv[3:]))
+    sys.exit(main(sys.argv[1:]))

@@ -245,13 +245,13 @@ def script_cases(name, words):
 
 # A halving plan and a script of it, of which the rows are those of bench/tools/halving_traces.py.
 TRACED_HALVING = (
-    FOUR_HALVING + b"script 1\nfaulty 1\nstart zero\nstart node 0 153000\nstart node 2 a60000\n"
-    b"start node 3 a60000\nlie 0 41 1 to all hex 34c000\nrounds 41\nshow 30 41\nend\n"
+    FOUR_HALVING + b"script 1\nfaulty 1\nstart zero\nstart node 0 2170\nstart node 2 3b80\n"
+    b"start node 3 6b80\nlie 0 19 1 to all hex a8e0\nrounds 20\nshow 10 20\nend\n"
 )
 TRACE_OF_NODE_2 = (
-    b"at 1 node 2 number none output 0\n"
-    b"at 1 node 2 group 0 3 value none unmarked waits began right age 1 left unseen "
-    b"right unseen left said 0 none right said 0 none same 4 least none fires none\n"
+    b"at 1 node 2 number none output 4\n"
+    b"at 1 node 2 whole 0 3 value 4 marked sound seen 1 untrusted share right saw 3 backed "
+    b"follows right instruction 2 king king 1 same 1 least none\n"
 )
 COUNT_TO_4 = ONE_BY_THREE + b"script 1\nfaulty\nstart zero\nrounds 4\nshow 1 4\nend\n"
 COUNT_TO_1 = b"plan 1\nbase 5\nend\nscript 1\nfaulty\nstart zero\nrounds 1\nshow 0 1\nend\n"
