@@ -1,5 +1,4 @@
-ghost use Rattle.std.specs.Prelude.{◌≡◌, ◌↔◌, ◌++◌, ◌∷◌, [], None, length, slice_get};
-ghost use Rattle.std.specs.Prelude.{OnOk, OnErr, IsTrue};
+ghost use Rattle.std.specs.Prelude.{◌≡◌, ◌++◌, ◌∷◌, [], None, OnOk, OnErr, IsTrue, ◌↔◌, length, slice_get};
 ghost use Rattle.receiver_groups.specs.Groups.{group_at, in_group};
 
 use indexmap::IndexMap;
