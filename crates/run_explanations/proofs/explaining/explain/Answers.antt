@@ -1,4 +1,4 @@
-use Rattle.std.proofs.Common.{◌∙◌, [], ap, subst, arith}
+use Rattle.std.proofs.Common.{ℕ, ◌∙◌, [], ap, subst, arith}
 use Rattle.adversary_script.specs.Scripts.{Script}
 use Rattle.run_explanations.specs.Playing.{HasPlayed}
 use Rattle.run_explanations.proofs.Taking.{played_on}
@@ -21,7 +21,7 @@ returns-clause-played c =
     let first = c.first_explanation-found.ensures.played in
     let same = ap (λ (s : Script). s.rounds) first.script in
     let lent = ap (λ (s : Script). s.rounds) c.script.ensures in
-    subst (λ t. HasPlayed c.args.runner.now t c.skip_to.new.self)
+    subst (λ (t : ℕ). HasPlayed c.args.runner.now t c.skip_to.new.self)
     (c.rounds-rounds.ensures.value ∙ (lent ∙ same))
     (played_on c.args.runner.now _ _ _ _ first c.skip_to.ensures.skipped
     (c.skip_to.ensures.played [] first.plays))
