@@ -1,5 +1,6 @@
 -- Where the lines, the kings' phases and the levels of a trace belong.
-use Rattle.std.specs.Prelude.{◌≡◌, ◌≢◌, ℕ, ◌+◌, ◌-◌, ◌*◌, ◌/◌, ◌%◌, ◌<◌, ◌≤◌, ◌==◌, ◌&&◌, List, [], ◌∷◌}
+use Rattle.std.specs.Prelude.{◌≡◌, ◌≢◌, ℕ, ◌+◌, ◌-◌, ◌*◌, ◌/◌, ◌%◌, ◌<◌, ◌≤◌, ◌==◌, ◌&&◌, List}
+use Rattle.std.specs.Prelude.{[], ◌∷◌}
 use Rattle.std.specs.Prelude.{length, take, Bool, true, false, Option, Some, None, slice_index_or}
 use Rattle.std.specs.Prelude.{All, AllPairs}
 use Rattle.std.specs.List.{count_by}
@@ -35,12 +36,12 @@ line_height (name.Group group) = 28
 
 -- the strip of that number and name
 pub record IsStripOf (levels : List Level) (level : ℕ) (name : StripName) (strip : Level) : Type 0
-    where
-  pub place : ℕ
-  pub inside : place < length levels
-  pub is : (d : Level) → slice_index_or levels place d ≡ strip
-  pub of_level : strip.level ≡ level
-  pub of_name : strip.name ≡ name
+  where
+    pub place : ℕ
+    pub inside : place < length levels
+    pub is : (d : Level) → slice_index_or levels place d ≡ strip
+    pub of_level : strip.level ≡ level
+    pub of_name : strip.name ≡ name
 
 -- a cell of the node of that place stands in its line of a strip
 pub record IsInStrip (strip : Level) (place top : ℕ) : Type 0 where

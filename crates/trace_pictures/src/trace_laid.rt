@@ -1,6 +1,7 @@
 //! Whether the lines, the kings' phases and the levels of a trace stand where they belong.
 
-ghost use Rattle.std.specs.Prelude.{◌≡◌, ◌≢◌, ◌≤◌, ◌<◌, ◌^◌, ℕ, All, AllPairs, true, IfSome, length};
+ghost use Rattle.std.specs.Prelude.{◌≡◌, ◌≢◌, ◌*◌, ◌≤◌, ◌<◌, ◌^◌, ℕ, All, AllPairs, true, IfSome};
+ghost use Rattle.std.specs.Prelude.{length};
 ghost use Rattle.std.specs.Prelude.{slice_index_or};
 ghost use Rattle.trace_pictures.specs.declared.traces.KingPhase.{KingPhase};
 ghost use Rattle.std.specs.List.{count_by};
@@ -26,13 +27,14 @@ fn shows(note: &Note) -> bool
     }
 }
 
-/// How high a line of a strip is: below a cell of a group stands a bar.
-pub fn line_height(name: StripName) -> u64
-    ensures { result ≡ line_height name }
+/// How high so many lines of a strip are: below a cell of a group stands a bar.
+pub fn lines_height(name: StripName, lines: u16) -> u32
+    ensures value { result ≡ line_height name * lines }
+    ensures most { result ≤ 2 ^ 24 }
 {
     match name {
-        StripName::Level(_) => 18,
-        StripName::Group(_) => 28,
+        StripName::Level(_) => 18 * u32::from(lines),
+        StripName::Group(_) => 28 * u32::from(lines),
     }
 }
 
@@ -47,14 +49,15 @@ fn strip_of(levels: &[Level], level: u64, name: StripName) -> Option<Level>
 }
 
 /// Whether a cell of a strip stands at the height of a node, of which so many stand above.
-fn is_in_strip(strip: Level, place: u64, top: u32) -> bool
-    requires { place < 2 ^ 16 }
+fn is_in_strip(strip: Level, place: u16, top: u32) -> bool
     ensures { result ≡ true → IsInStrip strip place top }
 {
-    let before = u64::from(strip.before);
-    before <= place
-        && place < before + u64::from(strip.members)
-        && u64::from(top) == u64::from(strip.cells) + line_height(strip.name) * (place - before)
+    if place < strip.before {
+        return false;
+    }
+    let line = place - strip.before;
+    let above = u64::from(lines_height(strip.name, line));
+    line < strip.members && u64::from(top) == u64::from(strip.cells) + above
 }
 
 /// Whether a line stands at the height of its node, of which so many stand above.
@@ -65,7 +68,7 @@ fn is_at_height(levels: &[Level], place: u64, note: &Note) -> bool
     match &note.seen {
         Seen::Shows(_) => u64::from(note.top) == 30 + 18 * place,
         Seen::Holds(register) => match strip_of(levels, register.level, register.name) {
-            Some(strip) => is_in_strip(strip, place, note.top),
+            Some(strip) => is_in_strip(strip, place as u16, note.top),
             None => false,
         },
     }
@@ -315,7 +318,7 @@ fn are_stacked(below: u64, from: u64, levels: &[Level], end: u32) -> bool
                 && u64::from(strip.top) + 16 <= u64::from(strip.cells)
                 && are_stacked(
                     strip.level,
-                    u64::from(strip.cells) + line_height(strip.name) * u64::from(strip.members),
+                    u64::from(strip.cells) + u64::from(lines_height(strip.name, strip.members)),
                     strips,
                     end,
                 )

@@ -14,7 +14,8 @@ returns-then-faults-eq0 g t c =
     let line = group_line view.heading view.faulty.now.ids view.config.now view.hears
     c.args.heard.now in
     writes_is
-    (sym (ap (flat_map line) (no_groups c.args.side c.args.group.now view.heading.node (omega arith))))
+    (sym (ap (flat_map line)
+    (no_groups c.args.side c.args.group.now view.heading.node (omega arith))))
     writes_none
 
 pub invariant_of-seen : goal.invariant_of-seen
@@ -67,5 +68,6 @@ returns-in_default g t c =
     let some : 0 < group.faults = omega arith in
     let line = group_line view.heading view.faulty.now.ids view.config.now view.hears
     c.args.heard.now in
-    writes_is (lines_of_spare line c.args.side group view.heading.node some c.in_default.ensures.value)
+    writes_is
+    (lines_of_spare line c.args.side group view.heading.node some c.in_default.ensures.value)
     (writes_last c.put_group_line.ensures)
