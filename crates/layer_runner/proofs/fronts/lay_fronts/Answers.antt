@@ -39,7 +39,7 @@ loop-v-preserved c =
     let is : c.front.new.out ≡ cut count (state_of config c.loop-v.v) =
     c.front.ensures
     ∙ ap (λ n. cut n (state_of config c.loop-v.v))
-    (ap (λ (s : State). length s.registers) c.index-fronts-v.is ∙ room) in
+    (sym (ap (λ (s : State). length s.registers) c.index-fronts-v.is) ∙ room) in
     one_laid (map (cut count) config) count c.loop-v.v c.loop-v.fronts c.front.new.out here
     c.loop-v.invariant (is ∙ sym (state_of-cut count config c.loop-v.v))
     (ap (λ (s : State). length s.registers) is
