@@ -9,7 +9,9 @@ no code with the proved program. Inputs and words are taken as accepted ones.
 
 import sys
 
-from halving_counter import Plan, instructions_of, left_period_of, level_state
+from halving_counter import (
+    Plan, follows_left, instruction_of, is_backed, level_state, right_share_of
+)
 from scripts import Script, parts_of, play
 
 KINDS = ("keep", "mark", "king")
@@ -28,35 +30,33 @@ def mark_word(group, own, config, faulty):
     return "locked" if value is not None and all(r == (value, True) for r in kings) else "marked"
 
 
-def held_words(group, own):
-    if own.instruction < instructions_of(group):
-        kind, king = KINDS[own.instruction % 3], group.first + own.instruction // 3
-        yield f"instruction {own.instruction} {kind} king {king}"
-    else:
-        yield "waits"
-    yield "began left" if own.by_left else "began right"
-    yield f"age {own.age}"
-    yield "left seen" if own.saw_left else "left unseen"
-    yield "right seen" if own.saw_right else "right unseen"
+def side_of(group, above):
+    """Which group it is, by the one above it."""
+    if above is None:
+        return "whole"
+    return "left" if group.first == above.first else "right"
+
+
+def held_words(group, own, faulty):
+    liars = sum(group.first <= v < group.first + group.nodes for v in faulty)
+    yield "sound" if liars <= group.faults else "unsound"
+    yield f"seen {own.seen}"
+    yield "trusted" if own.trusted else "untrusted"
+    yield "share left" if own.seen >= right_share_of(group) else "share right"
 
 
 def heard_words(group, own, heard):
     levels = [level_state(group, heard[group.first + i]) for i in range(group.nodes)]
-    quorum = group.nodes - group.faults
-    for half, said in (
-        ("left", sum(level.saw_left for level in levels)),
-        ("right", sum(level.saw_right for level in levels)),
-    ):
-        echo = "echoed" if said >= quorum - group.faults else "none"
-        yield f"{half} said {said} {'backed' if said >= quorum else echo}"
+    backed = is_backed(group, own, levels)
+    yield f"saw {sum(level.seen == own.seen for level in levels)}"
+    yield "backed" if backed else "unbacked"
+    yield "follows left" if follows_left(group, own, backed) else "follows right"
+    instruction, king = instruction_of(group, own, backed, heard)
+    yield f"instruction {instruction} {KINDS[instruction % 3]} king {group.first + king}"
     values = [level.register[0] for level in levels]
     yield f"same {values.count(own.register[0])}"
     often = [a for a in set(values) if a is not None and values.count(a) > group.faults]
     yield f"least {number_or_none(min(often, default=None))}"
-    busy = own.by_left and own.instruction + 1 < instructions_of(group)
-    left = sum(level.saw_left for level in levels) >= quorum and own.age == left_period_of(group)
-    right = sum(level.saw_right for level in levels) >= quorum and not busy
-    yield f"fires {('none', 'left', 'right', 'both')[left + 2 * right]}"
 
 
 def lines_of_node(script, t, v, config):
@@ -64,17 +64,20 @@ def lines_of_node(script, t, v, config):
     front = f"at {t} node {v}{' faulty' if v in faulty else ''}"
     number = config[v].number if plan.fields(v)[0] > 1 else None
     yield f"{front} number {number_or_none(number)} output {plan.shown(config[v])}"
+    above = None
     for group in plan.groups(v):
         if group.faults == 0:
             return
         own = level_state(group, config[v])
         last = group.first + group.nodes - 1
-        words = [f"{front} group {group.first} {last} value {number_or_none(own.register[0])}"]
+        front_of_group = f"{front} {side_of(group, above)} {group.first} {last}"
+        words = [f"{front_of_group} value {number_or_none(own.register[0])}"]
         words.append(mark_word(group, own.register, config, faulty))
-        words += held_words(group, own)
+        words += held_words(group, own, faulty)
         if t < script.rounds:
             words += heard_words(group, own, script.heard(t, v, config))
         yield " ".join(words)
+        above = group
 
 
 def main():

@@ -5,13 +5,14 @@
 
 PROGRAM is the path of a built `counterlab`, `halvinglab`, `attack`, `choose`, `draw`, `states`,
 `sweep` or `trace`; if none is named these are crates/NAME/out/NAME, as `rt ci` and `rt run` leave
-them. One that is not there is told in a line, and not tried. It is what the contracts of these programs leave
-to `main`: that all arguments are the words, that standard input, output and error are the source
-and the sinks, and that the status is the exit code. A case is an exit code, words, an input, the
-bytes that must come out, and how the line on standard error must begin, or that there is none. It
-also looks whether programs, header and crate say the version that the file VERSION has. The status
-is 1 if a case ends otherwise. A case that this machine cannot make is told in a line, and is no
-failure, nor is a machine that takes more than a minute.
+them. One that is not there is told in a line, and not tried. It is what the contracts of these
+programs leave to `main`: that all arguments are the words, that standard input, output and error
+are the source and the sinks, and that the status is the exit code. A case is an exit code, words,
+an input, the bytes that must come out, and how the line on standard error must begin, or that there
+is none. It also looks whether docs/FORMATS.md has the words of `counterlab`, and programs, header
+and crate say the version that the file VERSION has. The status is 1 if a case ends otherwise. A
+case that this machine cannot make is told in a line, and is no failure, nor is a machine that takes
+more than a minute.
 """
 
 import os
@@ -46,7 +47,6 @@ LONGEST = b"\n" * LIMIT
 # A counter of one node, and its node in the state 4.
 ONE_NODE = b"plan 1\nbase 5\nend\nnode 1\nid 0\nstate 80\nend\n"
 CELL_OF_4 = b"\x00\x01\x80"
-CUT_AT_0 = b"the input ends in packet 0, the first being 0, in the cell of node 0\n"
 # Less room than this is not asked for, and the steps in which it grows.
 STEP = 2**16
 
@@ -71,40 +71,37 @@ def own_run(name):
 
 
 def told(code, words, text, begin):
-    """A case that writes nothing but a line on standard error, which begins so."""
+    """A case that writes nothing but a line on standard error, which begins so, if there is one."""
     return code, words, text, b"", begin
 
 
-def command_words():
-    """How `counterlab` tells the words of the table of `outcomes`, which docs/FORMATS.md has too."""
+def words_compared():
+    """0 if docs/FORMATS.md has the words of the table of `outcomes` and no others, and else 1."""
     table = (CRATES / "outcomes" / "specs" / "Commands.antt").read_text()
     words = [*re.findall(r'row \(codes "(\w+)"\)', table), "demo SEED"]
-    rows = (TOP / "docs" / "FORMATS.md").read_text().split("| word | reads | writes |")[1].split("\n\n")[0]
+    page = (TOP / "docs" / "FORMATS.md").read_text()
+    rows = page.split("| word | reads | writes |")[1].split("\n\n")[0]
     told = [row.split("|")[1].replace("`", "").strip() for row in rows.splitlines()[2:]]
-    if sorted(words) != sorted(told):
-        sys.exit("statuses: docs/FORMATS.md has other words than the table of outcomes")
-    line = f"one of {', '.join(words[:-1])}, or {words[-1]}; the words are in `man counterlab`\n"
-    return line.encode()
+    return (0 if sorted(words) == sorted(told) else 1,)
 
 
 def counterlab_cases():
     liar, usage = example("runs/two_faced_liar"), b"usage: counterlab COMMAND\n"
-    words = command_words()
     return [
         stored(0, EXAMPLES, "runs/two_faced_liar", "run"),
         stored(1, EXAMPLES, "refused_plans/blocks", "plan"),
-        (2, (), liar, usage, words),
-        (2, ("run", "run"), liar, usage, words),
-        (2, ("demo", "seven"), b"", usage, words),
+        (2, (), liar, usage, b""),
+        (2, ("run", "run"), liar, usage, b""),
+        (2, ("demo", "seven"), b"", usage, b""),
         stored(3, EXAMPLES, "refused_scripts/faulty_node", "run"),
         stored(4, EXAMPLES, "certificates/no_end", "check"),
         stored(5, EXAMPLES, "certificates/row_differs", "check"),
         (1, ("plan",), LONGEST, b"refused plan line 1048577 premise form\n", b""),
         (0, ("node",), LONGEST[len(ONE_NODE):] + ONE_NODE, CELL_OF_4, b""),
-        *(told(8, (word,), TOO_LONG, b"the input is too long") for word in ("run", "plan")),
-        told(8, ("node",), LONGEST[len(ONE_NODE) - 1:] + ONE_NODE, b"the input is too long"),
-        (*stored(9, FAULTS, "short/cut_packet", "node")[:4], b"the input ends in packet "),
-        (9, ("node",), ONE_NODE + b"\0", CELL_OF_4, CUT_AT_0),
+        *(told(8, (word,), TOO_LONG, b"") for word in ("run", "plan")),
+        told(8, ("node",), LONGEST[len(ONE_NODE) - 1:] + ONE_NODE, b""),
+        stored(9, FAULTS, "short/cut_packet", "node"),
+        (9, ("node",), ONE_NODE + b"\0", CELL_OF_4, b""),
     ]
 
 
@@ -127,6 +124,7 @@ def rows_of(text):
 
 
 FOUR_HALVING = b"halving 1\ngroup 4 1 10\nend\n"
+TOO_FEW = b"halving 1\ngroup 3 1 10\nend\n"
 NODE_OF_FOUR = FOUR_HALVING + b"node 1\nid 1\nstate 000000\nend\n"
 ZERO_CELL, CELL_BEHIND_ZEROS = b"\x00\x03\x00\x00\x00", b"\x00\x03\x22\x20\xd0"
 
@@ -166,7 +164,7 @@ def layer_cases(word):
     no_slot = plan.replace(plan.split()[-2], b"5") + part
     return [
         (0, [word], plan + part + SCRIPT_OF_ONE, answer, b""),
-        (1, [word], b"halving 1\ngroup 3 1 10\nend\n", b"refused halving line 2 premise quorum\n", b""),
+        (1, [word], TOO_FEW, b"refused halving line 2 premise quorum\n", b""),
         (3, [word], plan + wrong, refusal, b""),
         (3, [word], no_slot, refusal[: refusal.index(b"line")] + b"line 4 rule slot\n", b""),
         (3, [word], plan + part + b"script 1\nfaulty 1\n", late_liar, b""),
@@ -176,7 +174,6 @@ def layer_cases(word):
 
 def halvinglab_cases():
     refused = b"refused halving line 2 premise quorum\n"
-    too_few = b"halving 1\ngroup 3 1 10\nend\n"
     two_liars = b"refused script line 5 rule faults\n"
     late_liars = b"refused script line 8 rule faults\n"
     no_such = FOUR_HALVING + b"node 1\nid 4\n"
@@ -186,14 +183,14 @@ def halvinglab_cases():
     return [
         own_run("halvinglab"),
         (0, ["node"], NODE_OF_FOUR + 4 * ZERO_CELL, ZERO_CELL + CELL_BEHIND_ZEROS, b""),
-        (1, ["plan"], too_few, refused, b""),
+        (1, ["plan"], TOO_FEW, refused, b""),
         (0, ["plan"], b"halving 1\ngroup 1 0 10\nend\n", TABLE_OF_ONE, b""),
-        (1, ["run"], too_few, refused, b""),
-        (1, ["node"], too_few, refused, b""),
+        (1, ["run"], TOO_FEW, refused, b""),
+        (1, ["node"], TOO_FEW, refused, b""),
         told(2, [], b"", b"usage: halvinglab "),
         (3, ["run"], FOUR_HALVING + b"script 1\nfaulty 0 1\n", two_liars, b""),
         (0, ["slots"], HELD_BY_ONE, HOLDS_OF_ONE, b""),
-        (1, ["slots"], too_few, refused, b""),
+        (1, ["slots"], TOO_FEW, refused, b""),
         (3, ["slots"], beyond, no_range, b""),
         (3, ["slots"], SLOTS_OF_FOUR + b"script 1\nfaulty 0 1\n", late_liars, b""),
         *(case for word in LAYERS_OF_ONE for case in layer_cases(word)),
@@ -301,7 +298,7 @@ def attack_cases():
     return [
         (*own_run("attack")[:4], b"locked "),
         told(1, search, example("refused_plans/blocks"), b"refused plan line "),
-        told(1, search, b"halving 1\ngroup 3 1 10\nend\n", b"refused halving line 2 premise quorum"),
+        told(1, search, TOO_FEW, b"refused halving line 2 premise quorum"),
         told(2, [], b"", b"usage: attack "),
         told(2, ["1", "0"], b"", b"usage: attack "),
         told(2, ["1", "3", "nose"], b"", b"usage: attack "),
@@ -456,11 +453,18 @@ def look_at(name, program, looks):
         looks.look(f"{name} check, of a record", verdict, record_checked, program)
         rows = rows_of((EXAMPLES / "records" / "too_many_liars_at_first.run.out").read_bytes())
         looks.look(f"{name} record, its rows", rows, rows_recorded, program)
+        looks.look("the words of docs/FORMATS.md", 0, words_compared)
     else:  # counterlab has no such word
         said = (0, f"{name} {VERSION}\n".encode(), b"")
         looks.look(f"{name} --version", said, ended, program, ["--version"], input=b"")
     _, words, text, _, _ = CASES[name]()[0]
-    unread, unwritten = b"the input could not be read", b"the answer could not be written"
+    # what failed is said on standard error, of `counterlab` by the exit code alone
+    unread, unwritten, refused = [
+        b"" if name == "counterlab" else line
+        for line in (
+            b"the input could not be read", b"the answer could not be written", b"out of memory"
+        )
+    ]
     full = (7, None, unwritten)
     looks.look(f"{name}, output that is full", full, full_written, program, words, text)
     if name == "choose":  # it reads nothing, and takes little memory
@@ -469,7 +473,7 @@ def look_at(name, program, looks):
         for player in PLANS:
             looks.look(f"attack {kind}, {player} run", 0, attack_played, program, kind, player)
     looks.look(f"{name}, a folder as input", (6, b"", unread), folder_read, program, words)
-    looks.look(f"{name}, no memory", (10, b"", b"out of memory"), memory_refused, program, words)
+    looks.look(f"{name}, no memory", (10, b"", refused), memory_refused, program, words)
 
 
 def main():

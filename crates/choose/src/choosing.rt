@@ -12,8 +12,9 @@ ghost use Rattle.plan_finder.specs.FindPart.{IsFit};
 
 use crate::fronts::front;
 use crate::fronts_of_both::front_of_both;
-use crate::laws::{boosting_is_outdone, halving_texts_are_plans};
-use crate::laws::{modulus_decides_nothing, texts_are_plans};
+use crate::laws::{
+    boosting_is_outdone, halving_texts_are_plans, modulus_decides_nothing, texts_are_plans,
+};
 use crate::most_faults::most_plan;
 use crate::reasons::ChooseError;
 use crate::requests::{Request, Room, Scope, request_of};

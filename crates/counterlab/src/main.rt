@@ -1,5 +1,5 @@
-//! The program: the workbench over standard input and standard output. It prints nothing itself, and
-//! ends with the exit code of the status.
+//! The program: the workbench over standard input and standard output. It prints nothing itself,
+//! and ends with the exit code of the status.
 #![tactic(auto)]
 
 use edge_io::{StdSink, StdSource};

@@ -6,8 +6,9 @@ ghost use Rattle.halving_texts.specs.Tables.{spares_of, group_line, group_lines}
 ghost use Rattle.halving_texts.specs.Tables.{node_line, node_lines, table_text};
 
 use edge_io::{Piece, Sink, WriteFault, Writer};
-use halving_plan::{Group, HalvingPlan, levels, node_bytes, output_bits, output_start};
-use halving_plan::{state_bits, state_bytes};
+use halving_plan::{
+    Group, HalvingPlan, levels, node_bytes, output_bits, output_start, state_bits, state_bytes,
+};
 
 fn put_plan<K: Sink>(writer: &mut Writer<'_, K>, plan: &HalvingPlan)
     ensures { Writes K.told (plan_line plan.now) writer.old writer.new }

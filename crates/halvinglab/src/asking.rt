@@ -21,7 +21,9 @@ pub fn write_help<K: Sink>(sink: &mut K) -> Result<(), WriteFault>
             Piece::Text(b"plan: reads a halving plan, the lines `halving 1`, `group N F C` and\n"),
             Piece::Text(b"`end`, and writes its table: its numbers and bound, what a state\n"),
             Piece::Text(b"takes, a line for each group, from all nodes down to single ones, and\n"),
-            Piece::Text(b"one for each node, with its bytes and where the output stands in them.\n"),
+            Piece::Text(
+                b"one for each node, with its bytes and where the output stands in them.\n",
+            ),
             Piece::Text(b"run: reads a halving plan and a script for it, plays the script, and\n"),
             Piece::Text(b"writes the bound, a row of what the nodes show in each configuration\n"),
             Piece::Text(b"that is shown, and which configuration is the first locked one.\n"),

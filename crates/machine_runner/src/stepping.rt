@@ -116,8 +116,8 @@ impl Round<'_> {
         put_hit(self.script, self.t + 1, self.begins, v, out);
     }
 
-    /// The steps of all nodes, from the current states, which are laid, to the next ones. If an era begins after the
-    /// round, nodes are put into the states that it gives them.
+    /// The steps of all nodes, from the current states, which are laid, to the next ones. If an era
+    /// begins after the round, nodes are put into the states that it gives them.
     pub fn step_all<M: Machine>(&self, machine: &M, room: &mut RoundBuffers, states: &mut Packed)
         requires read { IsReadFor (M.machine machine.now) self.now.script.now }
         requires config { IsConfiguration self.now.script.now states.old }

@@ -45,7 +45,7 @@ module _ (plan : HalvingNumbers) (script : Script) (t v : ℕ) (states : List St
       ∙ (ap (λ (p : HalvingNumbers). view_text heading (faulty_at script t) states hears p heard)
       numbers_is
       ∙ (ap (λ (x : List ℕ). state_line heading plan (state_of states v) ++ x)
-      (by_hearing heading (faulty_at script t) states hears (groups_of which.Whole (whole_of plan) v) heard
-      (heard_at script t states v) heard_is)
+      (by_hearing heading (faulty_at script t) states hears
+      (groups_of which.Whole (whole_of plan) v) heard (heard_at script t states v) heard_is)
       ∙ ap (λ (b : Bool). view_text heading (faulty_at script t) states b plan
       (heard_at script t states v)) hears_is)))))

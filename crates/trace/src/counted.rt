@@ -43,7 +43,8 @@ fn is_backed(group: &Group, saw: usize) -> bool
     saw >= (group.nodes() - group.faults()) as usize
 }
 
-/// What the node of a group, which has this level state, makes of what it hears. It takes no memory.
+/// What the node of a group, which has this level state, makes of what it hears. It takes no
+/// memory.
 pub fn count_said(seen: &GroupView<'_>, own: &LevelState, room: &mut ValueRoom) -> HeardOfGroup
     ensures saw { result.saw
         ≡ saw own.now.seen (level_states_in seen.now.group seen.now.heard.now) }
@@ -95,12 +96,7 @@ pub fn half_word(left: bool) -> &'static str
 }
 
 /// Writes which half a node of a group follows, its instruction, and whose phase that is of.
-fn put_instruction<K: Sink>(
-    writer: &mut Writer<'_, K>,
-    group: &Group,
-    left: bool,
-    instruction: u64,
-)
+fn put_instruction<K: Sink>(writer: &mut Writer<'_, K>, group: &Group, left: bool, instruction: u64)
     requires { 0 < group.now.faults }
     ensures { Writes K.told (instruction_part group.now left instruction) writer.old writer.new }
 {

@@ -64,7 +64,8 @@ fn put_held<K: Sink>(writer: &mut Writer<'_, K>, seen: &GroupView<'_>, own: &Lev
 fn put_front<K: Sink>(writer: &mut Writer<'_, K>, seen: &GroupView<'_>, own: &LevelState)
     ensures { Writes K.told (group_front seen.now.view.now.heading
         seen.now.view.now.faulty.now.ids seen.now.view.now.config.now
-        (record { side = seen.now.side; group = seen.now.group }) own.now.register) writer.old writer.new }
+        (record { side = seen.now.side; group = seen.now.group }) own.now.register)
+        writer.old writer.new }
 {
     let (view, group) = (seen.view, seen.group);
     group.facts();

@@ -21,5 +21,6 @@ pub struct GroupView<'a> {
     ghost within: { group.first + group.nodes ≤ length view.now.config.now },
     ghost deep: { All (λ s. group.register + 2 ≤ length s.registers) view.now.config.now },
     ghost among: { group.first + group.nodes ≤ length heard.now },
-    ghost hears: { All (HasGroup group) heard.now },
+    ghost hears: { All (λ s. group.register + 2 ≤ length s.registers) heard.now },
+    ghost halves_hear: { All (HasGroup group) heard.now },
 }

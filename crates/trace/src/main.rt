@@ -4,10 +4,11 @@
 //! named, or of all, a line of its state and one of each level, or of each group with halves, in
 //! which it is.
 //!
-//! [`tracing::put_trace`] plays a script on a boosting plan, and [`halving_tracing::put_halving_trace`]
-//! one on a halving plan, and both write the lines of the wanted configurations and nodes. The texts
-//! are defined in specs/: by the construction's own votes, lead, position and counts, and of a
-//! halving plan by its level states, and by which half a node follows.
+//! [`tracing::put_trace`] plays a script on a boosting plan, and
+//! [`halving_tracing::put_halving_trace`] one on a halving plan, and both write the lines of the
+//! wanted configurations and nodes. The texts are defined in specs/: by the construction's own votes,
+//! lead, position and counts, and of a halving plan by its level states, and by which half a node
+//! follows.
 //!
 //! `--help` and `--version` write what they say. Other words are answered by one line of usage on
 //! standard error, and what is refused by one line there. The exit codes are those of `counterlab`

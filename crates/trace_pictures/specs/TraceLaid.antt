@@ -1,5 +1,6 @@
 -- Where the lines, the kings' phases and the levels of a trace belong.
-use Rattle.std.specs.Prelude.{◌≡◌, ℕ, ◌+◌, ◌-◌, ◌*◌, ◌/◌, ◌%◌, ◌<◌, ◌≤◌, ◌==◌, ◌&&◌, List, [], ◌∷◌}
+use Rattle.std.specs.Prelude.{◌≡◌, ◌≢◌, ℕ, ◌+◌, ◌-◌, ◌*◌, ◌/◌, ◌%◌, ◌<◌, ◌≤◌, ◌==◌, ◌&&◌, List}
+use Rattle.std.specs.Prelude.{[], ◌∷◌}
 use Rattle.std.specs.Prelude.{length, take, Bool, true, false, Option, Some, None, slice_index_or}
 use Rattle.std.specs.Prelude.{All, AllPairs}
 use Rattle.std.specs.List.{count_by}
@@ -35,12 +36,12 @@ line_height (name.Group group) = 28
 
 -- the strip of that number and name
 pub record IsStripOf (levels : List Level) (level : ℕ) (name : StripName) (strip : Level) : Type 0
-    where
-  pub place : ℕ
-  pub inside : place < length levels
-  pub is : (d : Level) → slice_index_or levels place d ≡ strip
-  pub of_level : strip.level ≡ level
-  pub of_name : strip.name ≡ name
+  where
+    pub place : ℕ
+    pub inside : place < length levels
+    pub is : (d : Level) → slice_index_or levels place d ≡ strip
+    pub of_level : strip.level ≡ level
+    pub of_name : strip.name ≡ name
 
 -- a cell of the node of that place stands in its line of a strip
 pub record IsInStrip (strip : Level) (place top : ℕ) : Type 0 where
@@ -59,6 +60,15 @@ abbrev pub IsAtHeight : List Level → (place top : ℕ) → Seen → Type 0
 IsAtHeight levels place top (Shows output) = top ≡ line_top place
 IsAtHeight levels place top (Holds register) = StandsInStrip levels place top register
 
+-- a strip may have a line for a node: one of a group, for the nodes of the group
+abbrev pub IsMemberOf : (node : ℕ) → StripName → Type 0
+IsMemberOf node (name.Level level) = Unit {0}
+IsMemberOf node (name.Group group) = (group.first ≤ node) × (node ≤ group.last)
+
+abbrev pub IsOfMember : (node : ℕ) → Seen → Type 0
+IsOfMember node (Shows output) = Unit {0}
+IsOfMember node (Holds register) = IsMemberOf node register.name
+
 -- A line of a node, if so many outputs, `before`, were shown before that of its node: it is on the
 -- node that is due, and stands in the column of its configuration, and in the line of its node.
 pub record IsNoteLaid (levels : List Level) (nodes : ℕ) (ids : List ℕ) (before : ℕ) (note : Note)
@@ -66,6 +76,7 @@ pub record IsNoteLaid (levels : List Level) (nodes : ℕ) (ids : List ℕ) (befo
   pub node : (d : ℕ) → slice_index_or ids (before % nodes) d ≡ note.node
   pub column : note.column ≡ before / nodes
   pub first : note.is_first ≡ (shows note && before % nodes == 0)
+  pub member : IsOfMember note.node note.seen
   pub height : IsAtHeight levels (before % nodes) note.top note.seen
 
 -- line k of a trace: the outputs in the lines up to it tell its node and its configuration
@@ -130,6 +141,12 @@ AreStacked below from (strip ∷ strips) end =
     (below < strip.level) × (from ≤ strip.top) × (strip.top + 16 ≤ strip.cells)
     × AreStacked strip.level (strip.cells + line_height strip.name * strip.members) strips end
 
+-- no two strips have one name
+abbrev pub AreDistinct : List Level → Type 0
+AreDistinct [] = Unit {0}
+AreDistinct (strip ∷ strips) =
+    All (λ other. other.name ≢ strip.name) strips × AreDistinct strips
+
 -- a word before a strip stands beside its phases, at the beginning of a band
 pub record IsTitleLaid (levels : List Level) (title : Title) : Type 0 where
   pub strip : Level
@@ -153,6 +170,7 @@ pub record IsTraceLaid (trace : Trace) : Type 0 where
   pub turns : All (IsTurnLaid trace.levels.items) trace.reigns.items
   pub apart : AllPairs AreApart trace.reigns.items
   pub titles : All (IsTitleLaid trace.levels.items) trace.titles.items
+  pub distinct : AreDistinct trace.levels.items
   pub strips : AreStacked 0 (line_top trace.nodes) trace.levels.items trace.cells
   pub high : trace.cells ≤ trace.frame.height
   pub said : IsTraceSaid trace

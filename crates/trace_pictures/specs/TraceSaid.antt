@@ -42,8 +42,8 @@ abbrev pub value_before : Seen → (later : Option (Option ℕ)) → Option (Opt
 value_before (Shows shown) later = None
 value_before (Holds register) later = value_above register.name register.value later
 
--- What that register of these lines holds by which the node shows its output, up to the next output,
--- if there is one: the last one of levels, and the first one of groups.
+-- What that register of these lines holds by which the node shows its output, up to the next
+-- output, if there is one: the last one of levels, and the first one of groups.
 abbrev pub top_value : List Note → Option (Option ℕ)
 top_value [] = None
 top_value (note ∷ notes) = value_before note.seen (top_value notes)

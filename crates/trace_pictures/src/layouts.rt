@@ -1,9 +1,11 @@
-//! Lays out a trace: below the outputs a strip for each level or group, with the kings' phases above
-//! it.
+//! Lays out a trace: below the outputs a strip for each level or group, with the kings' phases
+//! above it.
 
+use crate::trace_laid::lines_height;
 use crate::trace_reading::MOST_STRIPS;
-use crate::traces::{Basis, Heard, KingPhase, Level, Note, Register, Seen, StripName, Title, Trace};
-use crate::trace_laid::line_height;
+use crate::traces::{
+    Basis, Heard, KingPhase, Level, Note, Register, Seen, StripName, Title, Trace,
+};
 use picture_parts::{ChartError, MOST_COLUMNS, line_top};
 use std::alloc::{AllocFailed, Global};
 
@@ -138,11 +140,6 @@ fn find_reigns(trace: &mut Trace, strips: &mut [Strip]) -> Result<(), ChartError
         }
     }
     Ok(())
-}
-
-/// How high the lines of so many nodes are in a strip.
-fn lines_height(name: StripName, nodes: u16) -> u32 {
-    (line_height(name) as u32).saturating_mul(u32::from(nodes))
 }
 
 /// Gives each strip its place below those before it. Answers where the last one ends.

@@ -85,11 +85,7 @@ fn put_arrow_by<K: Sink>(writer: &mut Writer<'_, K>, spot: CellPosition, basis: 
 }
 
 /// Draws it if the node hears something.
-pub fn put_arrow_if<K: Sink>(
-    writer: &mut Writer<'_, K>,
-    spot: CellPosition,
-    heard: &Option<Heard>,
-)
+pub fn put_arrow_if<K: Sink>(writer: &mut Writer<'_, K>, spot: CellPosition, heard: &Option<Heard>)
     ensures { Writes K.told (arrow_if spot heard.now) writer.old writer.new }
 {
     match heard {

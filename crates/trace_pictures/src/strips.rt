@@ -114,7 +114,8 @@ fn put_sound_in<K: Sink>(
     }
 }
 
-/// Draws a register of a group, and below it what its node saw of the left half, and whom it follows.
+/// Draws a register of a group, and below it what its node saw of the left half, and whom it
+/// follows.
 fn put_member_in<K: Sink>(
     writer: &mut Writer<'_, K>,
     spot: CellPosition,

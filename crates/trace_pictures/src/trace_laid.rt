@@ -1,11 +1,13 @@
 //! Whether the lines, the kings' phases and the levels of a trace stand where they belong.
 
-ghost use Rattle.std.specs.Prelude.{◌≡◌, ◌≤◌, ◌<◌, ◌^◌, ℕ, All, AllPairs, true, IfSome, length};
+ghost use Rattle.std.specs.Prelude.{◌≡◌, ◌≢◌, ◌*◌, ◌≤◌, ◌<◌, ◌^◌, ℕ, All, AllPairs, true, IfSome};
+ghost use Rattle.std.specs.Prelude.{length};
 ghost use Rattle.std.specs.Prelude.{slice_index_or};
 ghost use Rattle.trace_pictures.specs.declared.traces.KingPhase.{KingPhase};
 ghost use Rattle.std.specs.List.{count_by};
 ghost use Rattle.std.specs.List.Sorted.{IsStrictlyIncreasing};
-ghost use Rattle.trace_pictures.specs.TraceLaid.{AreApart, AreLinesLaid, AreStacked, HasTurn};
+ghost use Rattle.trace_pictures.specs.TraceLaid.{AreApart, AreDistinct, AreLinesLaid, AreStacked};
+ghost use Rattle.trace_pictures.specs.TraceLaid.{HasTurn, IsMemberOf, IsOfMember};
 ghost use Rattle.trace_pictures.specs.TraceLaid.{HasTurnOf, IsAtHeight, IsInStrip, IsNoteLaid};
 ghost use Rattle.trace_pictures.specs.TraceLaid.{IsStripOf};
 ghost use Rattle.trace_pictures.specs.TraceLaid.{IsTitleLaid, IsTraceLaid, IsTurnLaid, IsTurnOf};
@@ -25,13 +27,14 @@ fn shows(note: &Note) -> bool
     }
 }
 
-/// How high a line of a strip is: below a cell of a group stands a bar.
-pub fn line_height(name: StripName) -> u64
-    ensures { result ≡ line_height name }
+/// How high so many lines of a strip are: below a cell of a group stands a bar.
+pub fn lines_height(name: StripName, lines: u16) -> u32
+    ensures value { result ≡ line_height name * lines }
+    ensures most { result ≤ 2 ^ 24 }
 {
     match name {
-        StripName::Level(_) => 18,
-        StripName::Group(_) => 28,
+        StripName::Level(_) => 18 * u32::from(lines),
+        StripName::Group(_) => 28 * u32::from(lines),
     }
 }
 
@@ -46,14 +49,15 @@ fn strip_of(levels: &[Level], level: u64, name: StripName) -> Option<Level>
 }
 
 /// Whether a cell of a strip stands at the height of a node, of which so many stand above.
-fn is_in_strip(strip: Level, place: u64, top: u32) -> bool
-    requires { place < 2 ^ 16 }
+fn is_in_strip(strip: Level, place: u16, top: u32) -> bool
     ensures { result ≡ true → IsInStrip strip place top }
 {
-    let before = u64::from(strip.before);
-    before <= place
-        && place < before + u64::from(strip.members)
-        && u64::from(top) == u64::from(strip.cells) + line_height(strip.name) * (place - before)
+    if place < strip.before {
+        return false;
+    }
+    let line = place - strip.before;
+    let above = u64::from(lines_height(strip.name, line));
+    line < strip.members && u64::from(top) == u64::from(strip.cells) + above
 }
 
 /// Whether a line stands at the height of its node, of which so many stand above.
@@ -64,21 +68,41 @@ fn is_at_height(levels: &[Level], place: u64, note: &Note) -> bool
     match &note.seen {
         Seen::Shows(_) => u64::from(note.top) == 30 + 18 * place,
         Seen::Holds(register) => match strip_of(levels, register.level, register.name) {
-            Some(strip) => is_in_strip(strip, place, note.top),
+            Some(strip) => is_in_strip(strip, place as u16, note.top),
             None => false,
         },
     }
 }
 
+/// Whether a strip may have a line for a node: one of a group, for the nodes of the group.
+fn is_member(name: StripName, node: u64) -> bool
+    ensures { result ≡ true → IsMemberOf node name }
+{
+    match name {
+        StripName::Level(_) => true,
+        StripName::Group(group) => group.first <= node && node <= group.last,
+    }
+}
+
+/// Whether a line stands in a strip that may have one for its node, if it is on a register.
+fn is_of_member(node: u64, seen: &Seen) -> bool
+    ensures { result ≡ true → IsOfMember node seen.now }
+{
+    match seen {
+        Seen::Shows(_) => true,
+        Seen::Holds(register) => is_member(register.name, node),
+    }
+}
+
 /// Whether ids rise.
-pub fn ids_rise(ids: &[u64]) -> bool
+fn ids_rise(ids: &[u64]) -> bool
     ensures { result ≡ true → IsStrictlyIncreasing ids.now }
 {
     ids.windows(2).all(|pair| pair[0] < pair[1])
 }
 
 /// Whether the id at a place is that of a node.
-pub fn has_id(ids: &[u64], place: u64, node: u64) -> bool
+fn has_id(ids: &[u64], place: u64, node: u64) -> bool
     ensures { result ≡ true → (d : ℕ) → slice_index_or ids.now place d ≡ node }
 {
     let place = place as usize;
@@ -95,6 +119,7 @@ fn is_note_laid(levels: &[Level], nodes: u16, ids: &[u64], before: u64, note: &N
     u64::from(note.column) == before / u64::from(nodes)
         && has_id(ids, place, note.node)
         && note.is_first == (shows(note) && place == 0)
+        && is_of_member(note.node, &note.seen)
         && is_at_height(levels, place, note)
 }
 
@@ -264,6 +289,23 @@ fn are_titles_laid(levels: &[Level], titles: &[Title]) -> bool
     titles.iter().all(|title| is_title_laid(levels, *title))
 }
 
+/// Whether no strip has a name.
+fn lack_name(levels: &[Level], name: StripName) -> bool
+    ensures { result ≡ true → All (λ strip. strip.name ≢ name) levels.now }
+{
+    levels.iter().all(|strip| strip.name != name)
+}
+
+/// Whether no two strips have one name.
+fn are_distinct(levels: &[Level]) -> bool
+    ensures { result ≡ true → AreDistinct levels.now }
+{
+    match levels {
+        [] => true,
+        [strip, strips @ ..] => lack_name(strips, strip.name) && are_distinct(strips),
+    }
+}
+
 /// Whether strips stand one below the other, from one height to another.
 fn are_stacked(below: u64, from: u64, levels: &[Level], end: u32) -> bool
     ensures { result ≡ true → AreStacked below from levels.now end }
@@ -276,7 +318,7 @@ fn are_stacked(below: u64, from: u64, levels: &[Level], end: u32) -> bool
                 && u64::from(strip.top) + 16 <= u64::from(strip.cells)
                 && are_stacked(
                     strip.level,
-                    u64::from(strip.cells) + line_height(strip.name) * u64::from(strip.members),
+                    u64::from(strip.cells) + u64::from(lines_height(strip.name, strip.members)),
                     strips,
                     end,
                 )
@@ -312,6 +354,9 @@ pub fn is_trace_laid(trace: &Trace) -> bool
         return false;
     }
     if !is_trace_said(trace) {
+        return false;
+    }
+    if !are_distinct(&trace.levels) {
         return false;
     }
     let from = u64::from(line_top(trace.nodes));

@@ -1,7 +1,9 @@
 //! Reads a line that `trace` writes.
 
-use crate::traces::{Basis, Beat, Following, Group, Half, Heard, Held, LeftSeen, Note, Output};
-use crate::traces::{Register, Seen, Side, StripName, Turn};
+use crate::traces::{
+    Basis, Beat, Following, Group, Half, Heard, Held, LeftSeen, Note, Output, Register, Seen, Side,
+    StripName, Turn,
+};
 use edge_io::{Words, number};
 use picture_parts::{next_is, next_number};
 use std::alloc::{AllocFailed, Global};

@@ -11,8 +11,10 @@ ghost use Rattle.trace_pictures.specs.Traces.{own_words, register_words, seen_wo
 ghost use Rattle.trace_pictures.specs.Traces.{sound_word, strip_words, trust_word, turn_word};
 ghost use Rattle.trace_pictures.specs.Traces.{vote_word};
 
-use crate::traces::{Basis, Beat, Following, Group, Half, Heard, Held, LeftSeen, Note, Output};
-use crate::traces::{Register, Seen, Side, StripName, Turn};
+use crate::traces::{
+    Basis, Beat, Following, Group, Half, Heard, Held, LeftSeen, Note, Output, Register, Seen, Side,
+    StripName, Turn,
+};
 use edge_io::{Piece, Sink, Writer};
 
 /// What stands after the id of a faulty node.

@@ -46,8 +46,8 @@ fn is_modulus_of(notes: &[Note], modulus: u64) -> bool
     are_below(modulus, notes) && (modulus == 0 || has_output(notes, modulus - 1))
 }
 
-/// Which of these a node shows: the value of a register, or that of those after it, if there are any.
-/// Levels come before those above them, and groups after those in which they are.
+/// Which of these a node shows: the value of a register, or that of those after it, if there are
+/// any. Levels come before those above them, and groups after those in which they are.
 fn value_above(
     name: StripName,
     value: Option<u64>,

@@ -18,7 +18,8 @@ returns c = λ stacked. record {
   apart = rw c.deref-9.ensures.value at c.are_apart.ensures c.if-not-are_apart.false;
   titles = rw (c.deref-7.ensures.value, c.deref-8.ensures.value)
       at c.are_titles_laid.ensures c.if-not-are_titles_laid.false;
-  strips = rw (c.deref-10.ensures.value, c.from-from.ensures, c.line_top.ensures.value)
+  distinct = rw c.deref-10.ensures.value at c.are_distinct.ensures c.if-not-are_distinct.false;
+  strips = rw (c.deref-11.ensures.value, c.from-from.ensures, c.line_top.ensures.value)
       at c.are_stacked.ensures stacked;
   high = omega (arith, c.if-trace.false);
   said = c.is_trace_said.ensures c.if-not-is_trace_said.false;

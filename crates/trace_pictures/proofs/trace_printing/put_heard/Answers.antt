@@ -3,6 +3,5 @@ use Rattle.trace_pictures.proofs.trace_printing.put_heard.Goals as goal
 
 pub returns : goal.returns
 returns g c =
-    writes_then c.text.ensures
-    (writes_then (rw c.deref.ensures.value at c.put_votes.ensures)
-    (writes_then (rw c.turn_word.ensures at c.pieces.ensures) c.put_number_or_none.ensures))
+    writes_then c.put_basis.ensures
+    (writes_then (rw c.turn_word.ensures at c.pieces.ensures) c.put_number_or_none.ensures)

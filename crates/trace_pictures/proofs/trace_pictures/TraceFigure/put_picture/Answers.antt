@@ -5,7 +5,8 @@ pub returns : goal.returns
 returns g c =
     let bottom = c.bottom-bottom.ensures.value in
     let levels = c.captions-levels.ensures in
-    writes_then (rw (c.picture_width.ensures, bottom, levels) at c.put_front.ensures)
+    let groups = rw c.are_groups.ensures at c.group_height-groups.ensures in
+    writes_then (rw (c.picture_width.ensures, bottom, groups, levels) at c.put_front.ensures)
     (writes_then c.put_ground.ensures
     (writes_then c.put_dots.ensures
     (writes_then c.put_bands.ensures
