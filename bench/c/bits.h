@@ -1,5 +1,5 @@
-/* What the programs of this folder share of either construction: output that is gathered, and numbers
- * as bits.
+/* What the programs of this folder share of either construction: output that is gathered, and
+ * numbers as bits.
  */
 #include <stdint.h>
 #include <stdio.h>

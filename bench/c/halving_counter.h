@@ -1,5 +1,5 @@
-/* The halving counter: its plan, states as bits, and the step of a node. What a node hears stands in
- * columns, one for each field of each level, over which its step counts. Inputs are taken as
+/* The halving counter: its plan, states as bits, and the step of a node. What a node hears stands
+ * in columns, one for each field of each level, over which its step counts. Inputs are taken as
  * accepted ones.
  */
 #include "bits.h"
@@ -228,8 +228,8 @@ static uint64_t least_of_all(const uint64_t *column, int count, int borne) {
     return least;
 }
 
-/* The least value that more nodes have than may be faulty. Of few nodes no more than two values may be
- * so common; they are left when others are struck out by threes. */
+/* The least value that more nodes have than may be faulty. Of few nodes no more than two values
+ * may be so common; they are left when others are struck out by threes. */
 static uint64_t least_above(const uint64_t *column, int count, int borne) {
     uint64_t one = INFINITE, two = INFINITE;
     int ones = 0, twos = 0;

@@ -48,8 +48,8 @@ int main(void) {
     struct state state, new = {0};
     read_all();
     input = realloc(input, size + 9), input[size] = 0;
-    if (sscanf((char *)input, "halving 1 group %d %d %llu end node 1 id %d state %256s end%n", &count,
-               &borne, &by, &id, digits, &at) != 5 || at == 0) return 1;
+    if (sscanf((char *)input, "halving 1 group %d %d %llu end node 1 id %d state %256s end%n",
+               &count, &borne, &by, &id, digits, &at) != 5 || at == 0) return 1;
     put_group(count, borne, by), end_plan(0, 0);
     if (!read_hex(id, digits, &state)) return 1;
     put_cell(id, &state);

@@ -33,7 +33,8 @@ static struct state fitted(int u, int from, uint64_t by) {
         s.marked[j] = c->marked[j], s.trusted[j] = c->trusted[j];
     }
     if (is_alone[u]) {
-        uint64_t number = !is_alone[from] ? 0 : depth_of[from] == 0 ? c->top : c->value[depth_of[from]];
+        int below = depth_of[from];
+        uint64_t number = !is_alone[from] ? 0 : below == 0 ? c->top : c->value[below];
         number = moved(number, by, levels_of[u][depth].g.modulus, 0);
         if (depth == 0) s.top = number;
         else s.value[depth] = (uint16_t)number;

@@ -1,8 +1,8 @@
-/* Four nodes of a halving plan, one of them faulty: after how many rounds the correct ones are locked at
- * the latest, over all starts and all liars. It goes backwards: W(0) are the configurations that are
- * not locked, W(k + 1) those from which the liar can lead into W(k). The first k with W(k) empty is
- * the answer; if W(k + 1) is W(k), the liar keeps the others from it for ever. README.md says more.
- *
+/* Four nodes of a halving plan, one of them faulty: after how many rounds the correct ones are
+ * locked at the latest, over all starts and all liars. It goes backwards: W(0) are the
+ * configurations that are not locked, W(k + 1) those from which the liar can lead into W(k). The
+ * first k with W(k) empty is the answer; if W(k + 1) is W(k), the liar keeps the others from it
+ * for ever. README.md says more.
  *   gcc -O2 -o exact bench/exact/exact.c
  *   ./exact MODULUS FAULTY [K [L]]          the answer, where the shares of the left half's period are
  *                                           K and L rounds long, and not 5 and 3
@@ -11,8 +11,8 @@
  */
 #include "four.h"
 
-/* Sets of configurations: of those whose nodes at places 0 and 1 hold a and b, a bit for each state of
- * the one at place 2. */
+/* Sets of configurations: of those whose nodes at places 0 and 1 hold a and b, a bit for each
+ * state of the one at place 2. */
 
 static size_t size_of_set(void) {
     return (size_t)left_numbers * (size_t)right_numbers * (size_t)states * (size_t)states
@@ -121,14 +121,14 @@ static uint64_t *empty_set(void) {
     return set;
 }
 
-/* Goes back until no configuration is left, and gives how many rounds that are. The sets are kept if
- * there is an array for them. */
+/* Goes back until no configuration is left, and gives how many rounds that are. The sets are kept
+ * if there is an array for them. */
 static int search(uint64_t **kept) {
     uint64_t *set = empty_set();
     struct counts first = fill_first(set);
     long open = first.open;
-    printf("# %ld configurations, %ld not locked, %ld locked ones do not stay so\n", first.all, open,
-           first.breaking);
+    printf("# %ld configurations, %ld not locked, %ld locked ones do not stay so\n", first.all,
+           open, first.breaking);
     for (int k = 0;; k++) {
         uint64_t *next = empty_set();
         if (kept) kept[k] = set;
@@ -212,7 +212,8 @@ static void put_vectors(int number) {
         struct config next = c;
         next.at[v] = stepped(&c, v, m);
         next.left = next_left(c.left), next.right = next_right(c.right);
-        struct state own = correct_state(&c, v), new = correct_state(&next, v), liar = liar_state(m);
+        struct state own = correct_state(&c, v), new = correct_state(&next, v);
+        struct state liar = liar_state(m);
         printf("node %d state ", correct[v]), put_digits(correct[v], &own), printf("\ncells");
         for (int u = 0, place = 0; u < 4; u++) {
             struct state s = u == bad ? liar : correct_state(&c, place++);

@@ -1,5 +1,5 @@
-/* Four nodes of a halving plan, one of them faulty: what they hold at their one level, the step of a
- * correct one by its definition, and what a liar can bring it to.
+/* Four nodes of a halving plan, one of them faulty: what they hold at their one level, the step of
+ * a correct one by its definition, and what a liar can bring it to.
  */
 #include "../c/halving_counter.h"
 
@@ -12,8 +12,8 @@ struct local {
     int value, marked, seen, trusted;
 };
 
-/* A configuration: what the three correct nodes hold, and the numbers of nodes 0 and 1, of the left
- * half and of the right half. That of a faulty one is 0 and says nothing. */
+/* A configuration: what the three correct nodes hold, and the numbers of nodes 0 and 1, of the
+ * left half and of the right half. That of a faulty one is 0 and says nothing. */
 struct config {
     struct local at[3];
     int left, right;
@@ -77,8 +77,8 @@ static struct local stepped(const struct config *c, int v, struct message m) {
 
 /* The same for all messages at once. */
 
-/* Of a node, the values of all correct ones, its mark and an instruction, the right half's or the left
- * half's: the registers that the liar can bring it to, a bit of each. */
+/* Of a node, the values of all correct ones, its mark and an instruction, the right half's or the
+ * left half's: the registers that the liar can bring it to, a bit of each. */
 static uint32_t *registers_of[3];
 
 static void fill_registers(void) {
@@ -118,7 +118,8 @@ static void effects(const struct config *c, int v, uint64_t *set) {
     for (int says_same = 0; says_same < 2; says_same++) {
         int is_backed = saw + says_same >= 3, may_trust = is_backed && (l[v].trusted || x == 0);
         uint32_t can = registers[c->right];
-        if (is_backed && l[v].trusted && x >= right_share) can = registers[3 + (x - right_share) % 3];
+        if (is_backed && l[v].trusted && x >= right_share)
+            can = registers[3 + (x - right_share) % 3];
         else if (bad == 1) can = registers[0] | registers[1] | registers[2];
         for (int s = 0; s < period; s++)
             if (bad == 0 || s == c->left) add(set, can, s, may_trust && s == x + 1);

@@ -1,9 +1,8 @@
-/* One level alone: one half counts from configuration 0 on, at each phase in turn, with one correct king;
- * the other half shows each receiver what the liars want, and as many nodes lie as may. A crowd of
- * configurations that are not locked is kept and stepped with drawn lies, those first that agree
- * least. It prints the latest lock beside what a level waits for: two left periods if the left half
- * counts, some right periods and two rounds if the right half does.
- *
+/* One level alone: one half counts from configuration 0 on, at each phase in turn, with one
+ * correct king; the other half shows each receiver what the liars want, and as many nodes lie as
+ * may. A crowd of configurations that are not locked is kept and stepped with drawn lies, those
+ * first that agree least. It prints the latest lock beside what a level waits for: two left
+ * periods if the left half counts, some right periods and two rounds if the right half does.
  *   gcc -O2 -march=native -o level bench/exact/level.c
  *   ./level NODES FAULTS MODULUS SECONDS SEED [CROWD]
  */
@@ -103,7 +102,8 @@ static struct mood drawn_mood(int restart_every, int is_burst) {
 }
 
 /* What the half that does not count shows node v. */
-static int shown_to(int v, int left_counts, const struct mood *m, const struct node *n, int is_odd) {
+static int shown_to(int v, int left_counts, const struct mood *m, const struct node *n,
+                    int is_odd) {
     int right = (int)top.right.modulus;
     if (left_counts) return m->is_common ? m->instruction : below(right);
     if (v < m->out ? below(2) : is_odd) return below(top.left_period);
@@ -151,7 +151,8 @@ static int by_score(const void *a, const void *b) {
 /* One of the crowd after a round, if it is not locked. */
 static int is_kept(const struct member *from, int left_counts, int shown, struct mood m,
                    struct member *to) {
-    for (int u = 0; u < nodes; u++) tops[u] = from->nodes[u].value, seens[0][u] = from->nodes[u].seen;
+    for (int u = 0; u < nodes; u++)
+        tops[u] = from->nodes[u].value, seens[0][u] = from->nodes[u].seen;
     for (int v = 0; v < nodes; v++)
         to->nodes[v] = is_faulty[v] ? from->nodes[v] : stepped(v, from, left_counts, shown, &m);
     to->score = score_of(to, left_counts);
@@ -191,9 +192,10 @@ static void attack_half(int left_counts, int bound, double seconds) {
             if (at > latest) latest = at, king = j, at_phase = phase;
             if (at > bound) printf("PAST THE BOUND: king %d phase %d locked %d\n", j, phase, at);
         }
-    printf("nodes %d faults %d modulus %llu, the %s half counts: locked at %d of %d (king %d, phase %d),"
-           " %ld attacks\n", nodes, faults, (unsigned long long)modulus,
-           left_counts ? "left" : "right", latest, bound, king, at_phase, attacks);
+    printf("nodes %d faults %d modulus %llu, the %s half counts: ", nodes, faults,
+           (unsigned long long)modulus, left_counts ? "left" : "right");
+    printf("locked at %d of %d (king %d, phase %d), %ld attacks\n", latest, bound, king, at_phase,
+           attacks);
 }
 
 int main(int given, char **words) {

@@ -162,8 +162,8 @@ def cell(x, y, size, colour, what, edge="#999"):
 
 
 def share_at(faults, t):
-    """What a node does in round t that trusts the left half: what it saw, which half it follows, and
-    the instruction's number."""
+    """What a node does in round t that trusts the left half: what it saw, what the right half
+    shows, which half it follows, and the instruction's number."""
     saw, right = t % left_period(faults), (t + 1) % right_period(faults)
     if saw >= right_share(faults):
         return saw, right, "left", saw - right_share(faults)
@@ -172,11 +172,13 @@ def share_at(faults, t):
 
 def shares(faults):
     size, side, top, rounds = 30, 190, 34, 2 * left_period(faults)
-    names = ["seen of the left half", "the right half shows", "follows", "instruction", "the king is node"]
+    names = ["seen of the left half", "the right half shows", "follows", "instruction",
+             "the king is node"]
     w, h = side + rounds * size + 8, top + len(names) * size + 44
     out = head(w, h, f"two periods of the left half, for {faults} faults")
     share = f"K = {right_share(faults)}, R_0 = {left_share(faults)}, R_1 = {right_period(faults)}"
-    out += text(8, 20, 13, f"Two periods of the left half, of P = {left_period(faults)} rounds; {share}")
+    period = f"of P = {left_period(faults)} rounds"
+    out += text(8, 20, 13, f"Two periods of the left half, {period}; {share}")
     for i, name in enumerate(names):
         out += text(8, top + (i + 1) * size - 9, 12, name)
     for t in range(rounds):
@@ -188,10 +190,10 @@ def shares(faults):
         for i, (colour, what) in enumerate(row):
             out += cell(x, top + i * size, size, colour, what)
     y = top + len(names) * size
-    out += text(8, y + 18, 11, "A node that trusts the left half, and what it saw is backed. Blue: the left "
-                "half and its share; orange: the right half's.")
-    out += text(8, y + 34, 11, "Each share of the right half holds a whole phase of each of its kings, "
-                "wherever it stands in its period.")
+    out += text(8, y + 18, 11, "A node that trusts the left half, and what it saw is backed. Blue: "
+                "the left half and its share; orange: the right half's.")
+    out += text(8, y + 34, 11, "Each share of the right half holds a whole phase of each of its "
+                "kings, wherever it stands in its period.")
     return out + "</svg>\n"
 
 

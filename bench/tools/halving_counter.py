@@ -145,8 +145,8 @@ def level_after(group, v, heard):
 
 
 class Plan:
-    """A plan from the lines of its text, `halving 1`, `group N F C` and `end`; after it the values of
-    each register of a layer."""
+    """A plan from the lines of its text, `halving 1`, `group N F C` and `end`; after it the values
+    of each register of a layer."""
 
     def __init__(self, lines, behind=()):
         self.lines, self.behind = lines, list(behind)

@@ -11,8 +11,8 @@
 
 Each number from FIRST on is a script: a plan of 1 to 22 nodes, starts, up to four eras, groups, and
 lies of each kind. Printed is how many were compared; the first one that differs is printed, and the
-status is 1. `write` puts the inputs and the answers into a folder, as `drawn_runs.py` does, from which
-`read` takes them.
+status is 1. `write` puts the inputs and the answers into a folder, as `drawn_runs.py` does, from
+which `read` takes them.
 """
 
 import pathlib

@@ -3,9 +3,9 @@
 their states take, and the table that `halvinglab plan` writes.
 
   halving_numbers.py table N F C     the table of the plan `group N F C`
-  halving_numbers.py compare BINARY  compares the tables that the built `halvinglab` writes with these, and
-                                   the lines of its refusals, for some 300 plans; it stops at the
-                                   first that differs
+  halving_numbers.py compare BINARY  compares the tables that the built `halvinglab` writes with
+                                     these, and the lines of its refusals, for some 300 plans; it
+                                     stops at the first that differs
 
 Of F faults the left half tolerates F_0 = 5 F / 13 and the right half F_1 = F - 1 - F_0 (whole
 numbers). The first 3 F_0 + 1 nodes are the left half, the next 3 F_1 + 1 the right half, and all
@@ -47,8 +47,8 @@ def width(values):
 
 
 def groups_of(node, nodes, faults, modulus):
-    """The groups that a node is in, from the whole down: first node, nodes, faults, modulus. Where it
-    is a spare of the last one there is no group of it alone."""
+    """The groups that a node is in, from the whole down: first node, nodes, faults, modulus. Where
+    it is a spare of the last one there is no group of it alone."""
     first, found = 0, []
     while True:
         found.append((first, nodes, faults, modulus))

@@ -3,10 +3,9 @@
 
     python3 bench/tools/halving_stored.py
 
-The stored run of `halvinglab`; the sweep of crates/sweep/data, each of its keys played; the vectors;
-and the scripts of examples/halving and examples/layers, of which no stored answer has to be there:
-each has to lock within its bound in its last era. Nothing is written. The status is 1 if something
-differs.
+The stored run of `halvinglab`; the sweep of crates/sweep/data, each of its keys played; the
+vectors; and the scripts of examples/halving and examples/layers, each of which has to lock within
+its bound in its last era. Nothing is written. The status is 1 if something differs.
 """
 
 import pathlib

@@ -3,9 +3,9 @@
 
     python3 bench/tools/halving_sweeps.py crates/sweep/out/sweep NODES FAULTS KEYS
 
-The program may also be that of bench/c/halving_run.c, which is not proved, and writes the same. Each
-set of FAULTS nodes is faulty in turn, and each time the script is played up to T with the keys of
-the numbers 0 to KEYS - 1. Printed are how many runs that were, the latest first locked
+The program may also be that of bench/c/halving_run.c, which is not proved, and writes the same.
+Each set of FAULTS nodes is faulty in turn, and each time the script is played up to T with the keys
+of the numbers 0 to KEYS - 1. Printed are how many runs that were, the latest first locked
 configuration of all, the least set that has it, and the least number of its keys.
 """
 

@@ -1,8 +1,8 @@
 """Draws single steps of halving plans, for vectors.py. It is no part of the proved program.
 
-As many nodes have one value, and saw one number of the left half, as is just enough, or one less; what
-was seen is often 0, near the beginning of the left half's share or the end of its period, and the left
-half often shows the number after it, by just enough of its nodes or one less.
+As many nodes have one value, and saw one number of the left half, as is just enough, or one less;
+what was seen is often 0, near the beginning of the left half's share or the end of its period, and
+the left half often shows the number after it, by just enough of its nodes or one less.
 """
 
 from halving_counter import (
