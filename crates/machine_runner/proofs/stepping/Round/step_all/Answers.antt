@@ -1,8 +1,12 @@
-use Rattle.std.proofs.Common.{◌+◌, ◌<◌, ℕ, List, refl, sym, ap, ◌∙◌, subst, arith}
+use Rattle.std.proofs.Common.{◌≡◌, ◌+◌, ◌<◌, ℕ, List, All, length, refl, sym, ap, ◌∙◌, subst, arith}
+use Rattle.std.proofs.lemmas.List.{with_items_is}
 use Rattle.sync_types.specs.States.{State}
 use Rattle.construction.specs.Steps.{state_of}
 use Rattle.state_codec.specs.Packs.{Pack}
+use Rattle.state_codec.specs.Shapes.{Shape}
+use Rattle.adversary_script.proofs.LiesInRange.{depth_of_node}
 use Rattle.machine_runner.specs.Played.{state_after}
+use Rattle.machine_runner.proofs.Places.{all_places}
 use Rattle.machine_runner.specs.Hearing.{AreHonest}
 use Rattle.machine_runner.proofs.Filled.{FilledBelow, none_filled, one_filled, all_filled}
 use Rattle.machine_runner.proofs.stepping.Round.step_all.Goals as goal
