@@ -1,4 +1,4 @@
-use Rattle.std.proofs.Common.{◌≡◌, ℕ, List, length, sym, ap, ◌∙◌, subst, arith}
+use Rattle.std.proofs.Common.{◌≡◌, ℕ, List, length, take, sym, ap, ◌∙◌, subst, arith}
 use Rattle.std.proofs.lemmas.List.{length-map, with_items_is}
 use Rattle.std.proofs.lemmas.List.FromFn.{length-map-range_with_len}
 use Rattle.sync_types.specs.States.{State}
@@ -91,7 +91,7 @@ returns-clause-out g c =
     let size = ap (λ (xs : List State). length xs) is ∙ c.fill_lies.ensures.told.size in
     c.advance_shared.ensures.out
     ∙ ap (λ faulty. written (plan_depth plan) (step_of plan hearer.v
-    (heard_with faulty c.told.result.now config)) c.args.room.now.out)
+    (heard_with faulty (take c.len-liars.result c.deref.result.now) config)) c.args.room.now.out)
     (ap (λ (s : Shares). s.faulty) c.requires.stands)
     ∙ ap (λ (s : State). written (plan_depth plan) s c.args.room.now.out)
     (step_taken plan (plan_nodes plan) ids (g.L.Lies.says c.args.lies.now config) config hearer.v
