@@ -14,7 +14,7 @@ struct group {
     uint64_t modulus;
 };
 
-/* A group of a node, with what its step needs; and where the level stands in the bits of a state. */
+/* A group of a node, with what its step needs, and where the level stands in a state's bits. */
 struct level {
     struct group g, left, right;
     int right_share, left_period, value_at, value_width, seen_width;
@@ -38,7 +38,7 @@ static struct group whole;
 static int nodes, faults, behind; /* behind: a layer's registers, one or none */
 static uint64_t modulus, bound, layer_values;
 static int bytes_of[MOST_NODES], base_width[MOST_NODES], layer_at[MOST_NODES], layer_width;
-/* depth_of: how many groups of a node have halves; is_alone: whether it is alone in a group below */
+/* depth_of: how many groups of a node have halves; is_alone: whether it is alone below them */
 static int depth_of[MOST_NODES], is_alone[MOST_NODES];
 static struct level levels_of[MOST_NODES][MOST_LEVELS];
 static uint8_t common[MOST_NODES][MOST_NODES]; /* in how many groups with halves both nodes are */

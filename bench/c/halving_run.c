@@ -1,6 +1,7 @@
 /* Plays a script on a halving plan, and writes what `halvinglab run` writes. With two numbers it
  * plays the script with the keys of COUNT numbers from FIRST on, and writes when each era locks,
  * as `sweep` does on a boosting plan.
+ *
  *   gcc -O2 -o halving_run bench/c/halving_run.c
  *   ./halving_run < PLAN_AND_SCRIPT
  *   ./halving_run FIRST COUNT < PLAN_AND_SCRIPT

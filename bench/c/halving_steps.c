@@ -1,5 +1,6 @@
 /* How long a step of the halving counter takes: draws states, and prints nanoseconds of processor
  * time for a step of each node in turn, where all groups count together and where states are any.
+ *
  *   gcc -O2 -o halving_steps bench/c/halving_steps.c
  *   ./halving_steps NODES FAULTS MODULUS STEPS
  */

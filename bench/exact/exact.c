@@ -3,9 +3,10 @@
  * configurations that are not locked, W(k + 1) those from which the liar can lead into W(k). The
  * first k with W(k) empty is the answer; if W(k + 1) is W(k), the liar keeps the others from it
  * for ever. README.md says more.
+ *
  *   gcc -O2 -o exact bench/exact/exact.c
- *   ./exact MODULUS FAULTY [K [L]]          the answer, where the shares of the left half's period are
- *                                           K and L rounds long, and not 5 and 3
+ *   ./exact MODULUS FAULTY [K [L]]          the answer, where the shares of the left half's period
+ *                                           are K and L rounds long, and not 5 and 3
  *   ./exact script MODULUS FAULTY           a script that locks so late
  *   ./exact vectors MODULUS FAULTY COUNT    drawn steps of the model, as docs/VECTORS.md has them
  */

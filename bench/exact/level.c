@@ -3,6 +3,7 @@
  * may. A crowd of configurations that are not locked is kept and stepped with drawn lies, those
  * first that agree least. It prints the latest lock beside what a level waits for: two left
  * periods if the left half counts, some right periods and two rounds if the right half does.
+ *
  *   gcc -O2 -march=native -o level bench/exact/level.c
  *   ./level NODES FAULTS MODULUS SECONDS SEED [CROWD]
  */
