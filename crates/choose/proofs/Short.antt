@@ -11,13 +11,14 @@ use Rattle.choose.specs.declared.any_plans.AnyPlan.{AnyPlan}
 use Rattle.choose.specs.declared.any_plans.AnyPlan.TheVariants.{Boosting, Halving}
 use Rattle.choose.specs.declared.requests.Scope.{Scope}
 use Rattle.choose.specs.declared.requests.Scope.TheVariants as scope
+use Rattle.choose.specs.Compared.{fewest}
 use Rattle.choose.specs.Fronts as boosting
 use Rattle.choose.specs.Fronts.{Bears, Serves, IsFront}
 use Rattle.choose.specs.FrontsOfBoth as both
 use Rattle.choose.specs.FrontsOfBoth.{Tolerates, Suits, IsFrontOf}
 use Rattle.choose.specs.Least.{IsLeast, IsLeastOf}
 use Rattle.choose.specs.Shortages.{IsIn, CanTolerate, IsShort, IsTold, ModulusDecidesNothing}
-use Rattle.choose.proofs.Both.{boosting_bears, more_nodes, fewest, fewest_accepted}
+use Rattle.choose.proofs.Both.{boosting_bears, more_nodes, fewest_accepted}
 use Rattle.choose.proofs.Least.{lone_least}
 use Rattle.choose.proofs.Lower.{plan_of}
 
