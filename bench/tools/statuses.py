@@ -125,8 +125,8 @@ def rows_of(text):
 
 FOUR_HALVING = b"halving 1\ngroup 4 1 10\nend\n"
 TOO_FEW = b"halving 1\ngroup 3 1 10\nend\n"
-NODE_OF_FOUR = FOUR_HALVING + b"node 1\nid 1\nstate 000000\nend\n"
-ZERO_CELL, CELL_BEHIND_ZEROS = b"\x00\x03\x00\x00\x00", b"\x00\x03\x22\x20\xd0"
+NODE_OF_FOUR = FOUR_HALVING + b"node 1\nid 1\nstate 0000\nend\n"
+ZERO_CELL, CELL_BEHIND_ZEROS = b"\x00\x02\x00\x00", b"\x00\x02\x44\x00"
 
 
 SLOTS_OF_FOUR = FOUR_HALVING + b"slots 1\nslot 1 8 9\nend\n"
@@ -203,7 +203,8 @@ def halvinglab_cases():
     ]
 
 
-FRONT_OF_BOTH = b"nodes 10 bound 124 bytes 7 levels 2 halving 1;group 10 3 1000;end\n"
+FRONT_OF_BOTH = b"nodes 10 bound 44 bytes 4 levels 2 halving 1;group 10 3 1000;end\n"
+MOST_WITHIN_130 = b"nodes 13 bound 50 bytes 5 levels 3 halving 1;group 13 4 1000;end\n"
 NONE_OF_BOTH = (
     b"none: FAULTS 3 takes MOST_NODES of at least 10; MOST_NODES 9 allows FAULTS of at most 2\n"
 )
@@ -224,7 +225,7 @@ def choose_cases():
         (0, ["3", "1000", "9"], b"", b"none\n", NONE_OF_BOTH),
         (0, ["boosting", "5", "10", "14"], b"", b"none\n", NONE_BOOSTING),
         (0, ["boosting", "40", "10"], b"", b"none\n", NONE_AT_ALL),
-        (0, ["within", "14", "130", "1000"], b"", FRONT_OF_BOTH, b""),
+        (0, ["within", "14", "130", "1000"], b"", MOST_WITHIN_130, b""),
         (0, ["within", "3", "0", "8", "plan"], b"", b"plan 2\nbase 8\nend\n", b""),
         told(2, [], b"", b"usage: choose "),
         told(2, ["within", "0", "130", "1000"], b"", b"usage: choose "),
