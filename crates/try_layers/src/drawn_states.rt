@@ -1,5 +1,7 @@
 //! States of nodes that are drawn, as bench/tools/halving_steps.py draws them.
 
+ghost use Rattle.std.specs.Prelude.{◌<◌};
+
 use counter_core::clear;
 use halving_plan::{Group, HalvingPlan, LevelState};
 use std::process::Abort;
