@@ -2,7 +2,7 @@
 use Rattle.counter_core.specs.Meanings.{Meaning}
 use Rattle.machines.specs.Machines.{Machine}
 
--- Its nodes have all fields of their states, so each has the low 0.
+-- its numbers, what its states show, and the step
 abbrev pub machine_counter : Machine → Meaning
 machine_counter machine = record {
   nodes = machine.nodes;
@@ -10,7 +10,6 @@ machine_counter machine = record {
   modulus = machine.modulus;
   bound = machine.bound;
   depth = machine.depth;
-  low = λ v. 0;
   shows = machine.shows;
   next = machine.step;
 }
