@@ -6,6 +6,7 @@ use Rattle.std.specs.List.Sorted.{IsStrictlyIncreasing}
 use Rattle.sync_types.specs.States.{State}
 use Rattle.construction.specs.Steps.{state_of}
 use Rattle.construction.specs.Runs.{is_in, configuration, heard_by, AllLocked}
+use Rattle.counter_core.specs.Meanings.{cut}
 use Rattle.state_codec.specs.Shapes.{Fields}
 use Rattle.state_codec.specs.Ranges.{InRange}
 
@@ -43,6 +44,16 @@ module _ (machine : Machine) where
   pub record IsConfiguration (config : List State) : Type 0 where
     pub size : length config ≡ machine.nodes
     pub states : (v : ℕ) → v < machine.nodes → IsState v (state_of config v)
+
+  -- The number and the first registers are a state of node v: those of a layer may stand after them.
+  pub record IsFront (v : ℕ) (state : State) : Type 0 where
+    pub deep : machine.depth ≤ length state.registers
+    pub front : IsState v (cut machine.depth state)
+
+  -- such a state for each node
+  pub record AreFronts (states : List State) : Type 0 where
+    pub size : length states ≡ machine.nodes
+    pub fronts : (v : ℕ) → v < machine.nodes → IsFront v (state_of states v)
 
   -- what node u tells each receiver: states of its own
   pub record IsTold (u : ℕ) (told : List State) : Type 0 where
