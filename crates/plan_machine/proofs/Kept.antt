@@ -1,5 +1,5 @@
 -- What the shape and the tower of a plan give is what its machine says.
-use Rattle.std.proofs.Common.{◌≡◌, ℕ, zero, suc, ◌-◌, ◌<◌, ◌≤◌, List, [], ◌∷◌, length, get_or}
+use Rattle.std.proofs.Common.{◌≡◌, ℕ, ◌-◌, ◌<◌, ◌≤◌, List, [], ◌∷◌, length}
 use Rattle.std.proofs.Common.{Option, Some, None, All, refl, ap, ◌∙◌, subst, arith}
 use Rattle.std.specs.Prelude.{SomeIff}
 use Rattle.sync_types.specs.States.{State, zero_state}

@@ -13,7 +13,7 @@ use tower::{Tower, build};
 /// The counter of an accepted plan, with the shape of its states: the machine that the plan is.
 #[derive(Drop)]
 pub struct PlanMachine {
-    tower: Tower,
+    pub(crate) tower: Tower,
     shape: StateShape,
 }
 

@@ -1,6 +1,6 @@
-use Rattle.std.proofs.Common.{sym, ap, ◌∙◌, subst}
-use Rattle.machines.specs.Machines.{AreFronts, IsFront}
-use Rattle.machines.proofs.Fronts.{whole_front, whole_fronts, written_whole}
+use Rattle.std.proofs.Common.{sym, ◌∙◌, subst}
+use Rattle.machines.specs.Machines.{AreFronts}
+use Rattle.machines.proofs.Fronts.{whole_fronts}
 use Rattle.layer_runner.proofs.stepping.step_machine.Goals as goal
 
 pub advance-requires-clause-heard : goal.advance-requires-clause-heard

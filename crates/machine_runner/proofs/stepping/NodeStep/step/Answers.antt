@@ -1,7 +1,7 @@
 use Rattle.std.proofs.Common.{sym, ◌∙◌, subst}
 use Rattle.std.proofs.lemmas.List.{with_items_is}
 use Rattle.machines.specs.Machines.{AreFronts}
-use Rattle.machines.proofs.Fronts.{whole_fronts, written_whole}
+use Rattle.machines.proofs.Fronts.{whole_fronts}
 use Rattle.machine_runner.proofs.HeardAt.{heard_is_one}
 use Rattle.machine_runner.specs.Hearing.{AreHonest}
 use Rattle.machine_runner.proofs.Keeping.{range_of}
