@@ -92,6 +92,7 @@ fn step_machine<M: Machine>(machine: &M, v: u32, room: &mut LayerBuffers) -> u64
       front = room.new.front;
     } }
 {
+    machine.facts();
     let heard = Heard::of(&room.fronts);
     machine.advance(v, &heard, &mut room.below.work, &mut room.front);
     machine.output(v, &room.fronts[v as usize])

@@ -7,6 +7,7 @@ use Rattle.sync_types.specs.States.{State}
 use Rattle.construction.specs.Steps.{state_of}
 use Rattle.construction.specs.Machines as any
 use Rattle.construction.specs.Runs.{AllLocked}
+use Rattle.counter_core.specs.Meanings.{cut}
 use Rattle.state_codec.specs.Shapes.{Fields}
 use Rattle.state_codec.specs.Ranges.{InRange}
 
@@ -51,6 +52,16 @@ module _ (machine : Machine) where
     shows = machine.shows;
     next = machine.step;
   }
+
+  -- The number and the first registers are a state of node v: those of a layer may stand after them.
+  pub record IsFront (v : ℕ) (state : State) : Type 0 where
+    pub deep : machine.depth ≤ length state.registers
+    pub front : IsState v (cut machine.depth state)
+
+  -- such a state for each node
+  pub record AreFronts (states : List State) : Type 0 where
+    pub size : length states ≡ machine.nodes
+    pub fronts : (v : ℕ) → v < machine.nodes → IsFront v (state_of states v)
 
   abbrev pub IsConfiguration : (config : List State) → Type 0
   IsConfiguration config = any.IsConfiguration core IsState config
