@@ -2,7 +2,8 @@
 """Builds the static library, links it, and tries it from C, C++, Python and Rust.
 
     python3 bench/library/try.py              build the archive by `rt lib`
-    python3 bench/library/try.py --after-ci   build it over the libraries that `rt ci` has left
+    python3 bench/library/try.py --after-ci   build it over the libraries that `rt ci` has left, and
+                                              for 64-bit ARM, if its compiler and qemu are here
     python3 bench/library/try.py ARCHIVE      take this archive
     python3 bench/library/try.py ARCHIVE --compiler CC --runner WORDS --heap FILE
         an archive for another machine: CC compiles for it, FILE in C has the heap, and what is made
@@ -41,6 +42,7 @@ PROGRAM = CRATES / "counterlab" / "out" / "counterlab"
 PLAN_EXAMPLES = CRATES / "try_examples" / "data" / "plans"
 REFUSED = CRATES / "try_examples" / "data" / "refused_plans"
 PREMISES = ["form", "limit", "blocks", "modulus", "quorum", "share", "multiple", "single"]
+ARM = "aarch64-linux-gnu-"
 STEPS = 1000
 MINUTES = 10
 KILLED = -9  # as for want of memory
@@ -182,8 +184,9 @@ def uses():
     return rows
 
 
-def build_after_ci():
-    """Builds the archive over the libraries that `rt ci` proved and left in each crate's out/."""
+def build_after_ci(to=ARCHIVE, *more):
+    """Builds the archive over the libraries that `rt ci` proved and left in each crate's out/; for
+    another machine, for which the crate is proved anew, if its target is among more words."""
     rows, below, left = uses(), [], ["counterlab_c"]
     while left:
         for name in rows[left.pop()]:
@@ -206,8 +209,8 @@ def build_after_ci():
         command += ["-L", f"dependency={rlib(name).parent}"]
     command += ["--antt-project", f"{kit()}/rattle/logic/antt-project.json"]
     command += ["--logic-built", f"{kit()}/logic_built", "--toolchain", f"{kit()}/toolchain"]
-    command += ["--links", "counterlab_c=", "--crate-type", "staticlib", "-o", ARCHIVE]
-    ARCHIVE.parent.mkdir(exist_ok=True)
+    command += ["--links", "counterlab_c=", "--crate-type", "staticlib", *more, "-o", to]
+    to.parent.mkdir(exist_ok=True)
     status, said = status_of(command, cwd=CRATES / "counterlab_c")
     # 1: it is not proved over these libraries, or the backend cannot compile it
     if status == 1:
@@ -568,29 +571,24 @@ def trials(tried):
     return [*names, ("program", tried.program)]
 
 
-def main():
-    words, other = options(sys.argv[1:])
+def try_all(title, make):
+    """Tries what `make` gives, an archive and the heap, in a folder of its own; how many failed."""
     failed = 0
-    title = "library for another machine" if other else "library"
-    Clock.start()
     with tempfile.TemporaryDirectory(prefix="counterlab-library-") as name:
         room = pathlib.Path(name)
+        Machine.folder = name
         try:
-            if other:
-                Machine.compiler, Machine.folder = other["--compiler"].split(), name
-                Machine.runner = other["--runner"].split()
-            needs_compiler(Machine.compiler[0] if other else "gcc", "c")
-            made = archive(words)
-            heap = room / "heap.o" if other else kit() / "c" / "liblibc_c.a"
-            if other:
-                run(["gcc", "-std=c11", "-O2", "-DLIBRARY", "-c", "-o", heap, other["--heap"]])
+            needs_compiler("gcc", "c")
+            made, heap = make(room)
+            Clock.start()
+            tried = trials(Tried(room, made, heap))
         except (Skipped, OSError) as why:
             print(f"{title}: not tried: {why}")
             return 0
         except Failed as why:
             print(f"{title}: FAILED: {why}")
             return 1
-        for what, call in trials(Tried(room, made, heap)):
+        for what, call in tried:
             try:
                 print(f"{title}: {what}: {call()}", flush=True)
             except (Skipped, OSError) as why:
@@ -598,6 +596,41 @@ def main():
             except Failed as why:
                 failed += 1
                 print(f"{title}: {what}: FAILED: {why}", flush=True)
+    return failed
+
+
+def heap_of(room, source):
+    """The heap in C, compiled for the machine that is tried."""
+    made = room / "heap.o"
+    run(["gcc", "-std=c11", "-O2", "-DLIBRARY", "-c", "-o", made, source])
+    return made
+
+
+def arm_after_ci():
+    """The library for 64-bit ARM, over what `rt ci` left, where its compiler and qemu are."""
+    Machine.compiler, root = [f"{ARM}gcc"], "/usr/aarch64-linux-gnu"
+    Machine.runner = ["qemu-aarch64", "-L", root]
+    needs_compiler.cache_clear()
+
+    def make(room):
+        needs("qemu-aarch64")
+        made = room / "libcounterlab_c.a"
+        build_after_ci(made, "--target", "aarch64-unknown-linux-gnu")
+        return made, heap_of(room, TOP / "arm64" / "system.c")
+
+    return try_all("library on ARM", make)
+
+
+def main():
+    words, other = options(sys.argv[1:])
+    Clock.start()
+    if other:
+        Machine.compiler, Machine.runner = other["--compiler"].split(), other["--runner"].split()
+        make = lambda room: (archive(words), heap_of(room, other["--heap"]))
+        return 1 if try_all("library for another machine", make) else 0
+    failed = try_all("library", lambda _: (archive(words), kit() / "c" / "liblibc_c.a"))
+    if words == ["--after-ci"]:
+        failed += arm_after_ci()
     return 1 if failed else 0
 
 
