@@ -458,7 +458,7 @@ class Tried:
         found = {"COUNTERLAB_SO": str(shared), "PYTHONPATH": str(BINDINGS)}
         how = {"env": {**os.environ, **found}}
         said = run([sys.executable, FIRST / "four_nodes.py"], **how).decode().splitlines()
-        if said[-1:] != ["4 0112 0112 0112 48"]:
+        if said[-1:] != ["4 3300 6600 9800 9800"]:
             raise Failed(f"four_nodes.py ended with {said[-1:]}")
         run([sys.executable, FIRST / "thirteen_nodes.py"], **how)
         path = {"PYTHONPATH": os.pathsep.join([str(BINDINGS), str(FIRST)])}
