@@ -12,9 +12,10 @@
 Random steps of nine plans of both constructions, and calls that are refused, have to give what the
 plain step of calls.py gives, and of boosting plans what `counterlab node` writes if the program
 is built; the numbers of the example plans have to be those of their stored tables; each allocation
-is refused in turn. A line says what was not tried, and why. The status is 1 if an answer is not
-what it has to be, or what was proved is not compiled or linked. A tool that is missing or does not
-work is no failure, nor is a machine that has too little memory, or takes more than ten minutes.
+is refused in turn; and the loops of examples/library/ have to act when they should. A line says
+what was not tried, and why. The status is 1 if an answer is not what it has to be, or what was
+proved is not compiled or linked. A tool that is missing or does not work is no failure, nor is a
+machine that has too little memory, or takes more than ten minutes.
 """
 
 import functools
@@ -342,6 +343,17 @@ def plan_numbers():
             yield " ".join([hexed(calls.text_of(plan)), *map(str, numbers)]) + "\n"
 
 
+def acts_as_said(text):
+    """Whether the nodes of loop.c act in the rounds in which they should, all on one number."""
+    rows = [line.split()[1:] for line in text.decode().splitlines()]
+    numbers = [set(row[:2]) - {"-"} for row in rows]
+    all_act = [len(numbers[t]) == 1 and "-" not in row for t, row in enumerate(rows)]
+    missed = all(row[1] == "-" for row in rows[60:76])
+    failed = not any(numbers[101:130])
+    good = all(all_act[20:60]) and all(all_act[80:100]) and all(all_act[150:])
+    return len(rows) == 160 and all(len(it) < 2 for it in numbers) and missed and failed and good
+
+
 def hexed(data):
     return data.hex() or "-"
 
@@ -482,6 +494,17 @@ class Tried:
             raise Failed("counterlab.h and the crate of Rust say different texts of a code")
         return "the header, Python and Rust say the same of each code"
 
+    def acts(self):
+        """When the nodes of loop.c act."""
+        return run([self.link("gcc", "loop", FIRST / "node_loop.c", flags=["-pthread"])])
+
+    def loop(self):
+        """The loop of node_loop.c: a tick that is missed, and a liar too many."""
+        found = self.acts()
+        if not acts_as_said(found):
+            raise Failed(f"nodes act otherwise than they should:\n{found.decode()}")
+        return "nodes act when they should, and else do not"
+
     def python(self):
         """The shared object by ctypes, in a process of its own."""
         try:
@@ -497,9 +520,12 @@ class Tried:
         found = {"COUNTERLAB_SO": str(shared), "PYTHONPATH": str(BINDINGS)}
         how = {"env": {**os.environ, **found}}
         said = run([sys.executable, FIRST / "four_nodes.py"], **how).decode().splitlines()
-        if said[-1:] != ["4 0112 0112 0112 48"]:
+        if said[-1:] != ["4 3300 6600 9800 9800"]:
             raise Failed(f"four_nodes.py ended with {said[-1:]}")
         run([sys.executable, FIRST / "thirteen_nodes.py"], **how)
+        path = {"PYTHONPATH": os.pathsep.join([str(BINDINGS), str(FIRST)])}
+        if run([sys.executable, HERE / "loop.py"], env={**how["env"], **path}) != self.acts():
+            raise Failed("node_loop.py acts otherwise than node_loop.c")
         return run([sys.executable, HERE / "by_ctypes.py", cases], **how).decode().strip()
 
     def rust(self):
@@ -524,6 +550,11 @@ class Tried:
         program = self.room / "cargo" / "release" / "counterlab_nodes"
         self.cases_by(program)
         numbers = self.plans_by(program)
+        shutil.copyfile(HERE / "loop.rs", crate / "src" / "main.rs")
+        shutil.copyfile(FIRST / "node_loop.rs", crate / "src" / "node_loop.rs")
+        run(build, cwd=crate, env=env)
+        if run([program]) != self.acts():
+            raise Failed("node_loop.rs acts otherwise than node_loop.c")
         archive.write_bytes(b"no archive")
         if status_of(build, cwd=crate, env=env)[0] == 0:
             raise Failed("an archive that has changed is not linked anew")
@@ -563,6 +594,7 @@ def trials(tried):
     """What is tried on this machine, or on another one."""
     names = [("gcc", lambda: tried.c("gcc")), ("a first program", tried.first)]
     names += [("an arena", tried.arena), ("memory", tried.memory), ("threads", tried.threads)]
+    names += [("the loop", tried.loop)]
     if Machine.compiler:
         return names
     names[1:1] = [(it, functools.partial(tried.c, it)) for it in ("clang",)]
