@@ -22,7 +22,7 @@ use Rattle.layer_laws.proofs.CounterSlots.{runs_without_layer_over}
 use Rattle.machine_runner.proofs.Eras.{era_long, place_is, neighbours, of_each_era, same_faulty}
 use Rattle.machine_runner.proofs.Firsts.{none_inside, none_hit, era_some}
 use Rattle.counter_core.proofs.StateLists.{each_below}
-use Rattle.layer_runner.specs.Counters.{machine_counter}
+use Rattle.player.specs.Counters.{machine_counter}
 use Rattle.layer_runner.specs.Laws.{IsPlayable, EraCountsFrom, ErasAreLayerRuns}
 use Rattle.layer_runner.specs.Laws.{ErasCount, played_scene, era_scenes}
 use Rattle.layer_runner.proofs.CutStates.{state_of-cut}

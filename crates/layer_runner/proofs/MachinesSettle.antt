@@ -4,7 +4,7 @@ use Rattle.counter_core.specs.Overlays.{Layer}
 use Rattle.adversary_script.specs.Scripts.{faulty_sets}
 use Rattle.adversary_script.specs.ScriptPart.{IsTolerated}
 use Rattle.layer_runner.specs.Laws.{MachinesSettle, ReadersFit}
-use Rattle.layer_runner.specs.ReadOver.{IsShapeOver}
+use Rattle.player.specs.ReadOver.{IsShapeOver}
 
 pub machines_settle : MachinesSettle
 machines_settle machine sound = record {

@@ -30,7 +30,7 @@ use Rattle.machine_runner.proofs.FirstLocked.{passes}
 use Rattle.machine_runner.proofs.FirstPassing.{first_locked_below}
 use Rattle.machine_runner.proofs.Firsts.{in_era}
 use Rattle.machine_runner.proofs.Locked.{lock_test_is_exact}
-use Rattle.layer_runner.specs.Counters.{machine_counter}
+use Rattle.player.specs.Counters.{machine_counter}
 use Rattle.layer_runner.specs.Laws.{IsPlayable, EraCountsFrom, EraStaysLocked, ErasLock}
 use Rattle.layer_runner.specs.Laws.{ErasStayLocked}
 use Rattle.layer_runner.specs.Laws.{played_states, era_scenes}

@@ -15,7 +15,8 @@ advance-requires-clause-heard g c =
     (c.hear.auto.heard ∙ c.deref_mut.ensures.len) in
     let same = c.of-heard.ensures ∙ (c.deref.ensures.value ∙ (is ∙ c.hear.ensures.heard)) in
     subst (AreFronts (g.M.Machine.machine c.args.machine.now)) (sym same)
-    (whole_fronts (g.M.Machine.machine c.args.machine.now) c.facts.ensures _ (heard_is_one script c.args.self.now.round.now.t states.current c.args.self.now.v
+    (whole_fronts (g.M.Machine.machine c.args.machine.now) c.facts.ensures _
+    (heard_is_one script c.args.self.now.round.now.t states.current c.args.self.now.v
     c.args.self.now.node
     (range_of states.shape script.shape script.nodes states.current c.args.self.now.config.shape
     c.args.self.now.config.size c.facts-2.ensures.current)

@@ -15,8 +15,8 @@ pub copy_from-requires : goal.copy_from-requires
 copy_from-requires g c =
     let same = c.of-heard.ensures ∙ c.deref.ensures.value in
     room_again _ _ _ _ _ _ c.self.invariant _ same _ (c.advance.ensures.out ∙ written_whole _
-    ((g.M.Machine.machine c.self.inside.machine).step c.self.inside.id c.of-heard.result) c.self.inside.next
-    c.self.invariant.room) _
+    ((g.M.Machine.machine c.self.inside.machine).step c.self.inside.id c.of-heard.result)
+    c.self.inside.next c.self.invariant.room) _
     c.index_mut.ensures.value
 
 pub invariant_of-self : goal.invariant_of-self
@@ -24,6 +24,6 @@ invariant_of-self g c =
     let same = c.of-heard.ensures ∙ c.deref.ensures.value in
     let filled = c.fill.ensures in
     stepping _ _ _ _ _ _ c.self.invariant _ same _ (c.advance.ensures.out ∙ written_whole _
-    ((g.M.Machine.machine c.self.inside.machine).step c.self.inside.id c.of-heard.result) c.self.inside.next
-    c.self.invariant.room) _ c.copy_from.ensures _
+    ((g.M.Machine.machine c.self.inside.machine).step c.self.inside.id c.of-heard.result)
+    c.self.inside.next c.self.invariant.room) _ c.copy_from.ensures _
     (search rules) _ c.advance.ensures.work
