@@ -38,6 +38,7 @@ TOP = HERE.parent.parent
 CRATES = TOP / "crates"
 BINDINGS = TOP / "bindings"
 FIRST = TOP / "examples" / "library"
+PAGE = TOP / "docs" / "LIBRARY.md"
 ARCHIVE = CRATES / "counterlab_c" / "out" / "libcounterlab_c.a"
 PROGRAM = CRATES / "counterlab" / "out" / "counterlab"
 PLAN_EXAMPLES = CRATES / "try_examples" / "data" / "plans"
@@ -500,6 +501,9 @@ class Tried:
 
     def loop(self):
         """The loop of node_loop.c: a tick that is missed, and a liar too many."""
+        source = (FIRST / "node_loop.c").read_text()
+        if source[source.index("void run(") :] not in PAGE.read_text():
+            raise Failed("the page has another loop than node_loop.c")
         found = self.acts()
         if not acts_as_said(found):
             raise Failed(f"nodes act otherwise than they should:\n{found.decode()}")
