@@ -52,7 +52,7 @@ WORDS = {
 }
 SHAPES = [
     [], [(3, 1, 1)], [(4, 1, 0)], [(3, 1, 9)], [(3, 0, 1), (3, 1, 0)], [(3, 0, 0)], [(4, 1, 0)],
-    [(4, 1, 0), (3, 2, 0)],
+    [(4, 1, 0), (3, 2, 0)], [(3, 0, 8)], [(4, 1, 12)],
 ]
 # of plans alone; they have 243 and 256 nodes
 LARGE = [[(3, 0, 0), (3, 1, 0), (3, 3, 0), (3, 7, 0), (3, 15, 0)],
@@ -62,6 +62,9 @@ EXPLAINED = [[(3, 0, 0)], [(3, 1, 1)], [(3, 1, 2)]]
 GROUPS = [(4, 1), (5, 1), (7, 2), (1, 0), (8, 2)]
 NUMBERS = [0, 1, 2, 3, 16, 17, 85, 86, 255, 256, 257, 1024, 1025, 65536, 65537, 10**6, 10**6 + 1,
            2**40, 2**40 + 1, 10**15 - 1, 10**15]
+BEYOND = [17, 86, 257, 1025, 65537, 2**40 + 1]
+RULED = [b"base", b"level", b"group", b"want", b"slot", b"values", b"inputs", b"request", b"keep",
+         b"commands", b"id"]
 BYTES = b" 0\n9a#\r1e\tz-\x00\xff*"
 SKIPPED = [b"", b"# a remark", b"#\xff\r  \x00", b"#" * 4096, b"#" * 4097]
 
@@ -178,6 +181,26 @@ def with_number(draws, lines):
     return [*lines[:i], b" ".join(words), *lines[i + 1 :]]
 
 
+def with_limit(draws, lines):
+    """A number that a rule is about is a small one, or beyond some limit; or other nodes are faulty."""
+    i, j = draws.one_of([(i, j) for i, line in enumerate(lines) for j in ruled(line.split(b" "))])
+    words = lines[i].split(b" ")
+    if words[j] == b"faulty":
+        words[j + 1 :] = [b"%d" % v for v in range(draws.below(6))]
+    else:
+        words[j] = str(draws.one_of([*range(8), *BEYOND])).encode()
+    return [*lines[:i], b" ".join(words), *lines[i + 1 :]]
+
+
+def ruled(words):
+    """The places of such numbers in a line."""
+    if words[0] == b"level" and len(words) > 12:  # of a table
+        return [3, 9, 15, *range(21, len(words), 2)]
+    if words[0] in RULED:
+        return [j for j, word in enumerate(words) if word.isdigit()]
+    return [j for j, word in enumerate(words) if word == b"faulty"]
+
+
 def has_number(line):
     return any(word.isdigit() and len(word) < 16 for word in line.split(b" "))
 
@@ -250,7 +273,10 @@ def near(draws, program, word):
             skipped = draws.one_of(SKIPPED[:-1] if draws.below(4) else SKIPPED)
             lines.insert(draws.below(len(lines) + 1), skipped)
     if draws.below(16) > 0:
-        lines = draws.one_of(CHANGES)(draws, [line for line in lines]) or [b""]
+        change = draws.one_of(CHANGES)
+        if word != "check" and draws.below(2):
+            change = with_limit
+        lines = change(draws, lines) or [b""]
     if rest and draws.below(4) == 0:
         rest = rest[: draws.below(len(rest))]
     return b"\n".join(lines) + (b"" if draws.below(24) == 0 else b"\n") + rest
