@@ -7,8 +7,8 @@ answer with what plain_answers.py does.
 It draws for each word of crates/counterlab/out/counterlab and crates/halvinglab/out/halvinglab, and
 prints how many inputs of each were compared, and of each program how many were refused by each rule
 of each part, how many certificates were true and false, and how many runs have an explanation. The
-status is 1 if an answer differs, which is printed with its input, or if fewer than 20 are of some such
-kind. A program that is not there is told in a line, and not tried. Without SEED
+status is 1 if an answer differs, which is printed with its input, or if fewer than 20 are of some
+such kind. A program that is not there is told in a line, and not tried. Without SEED
 inputs are the same each time. It takes less than a minute.
 """
 
@@ -27,10 +27,11 @@ from vectors import Draws
 
 TOP = pathlib.Path(__file__).resolve().parent.parent.parent
 LEAST = 20
-# of each word, how many inputs are compared that one rule refuses, or that are answered in one way,
-# and how many are drawn to find them
+# of each word, how many inputs are compared that one rule refuses, or that are answered in one way;
+# how many are drawn, and how many at most if the rules of its own part want more
 MOST = 40
-DRAWN = 800
+DRAWN = 400
+DRAWN_AT_MOST = 6000
 
 PLAN = "form limit blocks modulus quorum share multiple"
 SCRIPT = "form limit node order faults range hex name"
@@ -50,6 +51,7 @@ WORDS = {
                    "consensus", "fire", "log", "node", "check"],
     "halvinglab": ["plan", "run", "slots", "consensus", "fire", "log", "node"],
 }
+OWN = {"upgrade": "plan", "run": "script", "record": "script", "consensus": "agree"}
 SHAPES = [
     [], [(3, 1, 1)], [(4, 1, 0)], [(3, 1, 9)], [(3, 0, 1), (3, 1, 0)], [(3, 0, 0)], [(4, 1, 0)],
     [(4, 1, 0), (3, 2, 0)], [(3, 0, 8)], [(4, 1, 12)],
@@ -78,7 +80,7 @@ def boosting(draws, shapes):
     for blocks, faults, spares in shape:
         nodes = nodes * blocks + spares
     slots = nodes * (3 * (faults + 1) + 1) * 3 * (faults + 1)
-    top = slots * draws.one_of([1, 2, 300])
+    top = slots * draws.one_of([1, 40, 300])
     moduli = [*(span(blocks, own) for blocks, own, _ in shape), top]
     version = 2 if any(spares for *_, spares in shape) else 1 + draws.below(2)
     yield from [f"plan {version}", f"base {moduli[0] * draws.one_of([1, 1, 2])}"]
@@ -90,7 +92,7 @@ def boosting(draws, shapes):
 def halving(draws):
     nodes, faults = draws.one_of(GROUPS)
     slots = nodes * (3 * (faults + 1) + 1) * 3 * (faults + 1)
-    return ["halving 1", f"group {nodes} {faults} {slots * draws.one_of([1, 2, 300])}", "end"]
+    return ["halving 1", f"group {nodes} {faults} {slots * draws.one_of([1, 40, 300])}", "end"]
 
 
 def packets(draws, plan):
@@ -182,8 +184,12 @@ def with_number(draws, lines):
 
 
 def with_limit(draws, lines):
-    """A number that a rule is about is a small one, or beyond some limit; or other nodes are faulty."""
-    i, j = draws.one_of([(i, j) for i, line in enumerate(lines) for j in ruled(line.split(b" "))])
+    """A number that a rule is about is small, or beyond some limit; or other nodes are faulty."""
+    places = collections.defaultdict(list)
+    for i, line in enumerate(lines):
+        words = line.split(b" ")
+        places[words[0]] += [(i, j) for j in ruled(words)]
+    i, j = draws.one_of(places[draws.one_of(sorted(key for key in places if places[key]))])
     words = lines[i].split(b" ")
     if words[j] == b"faulty":
         words[j + 1 :] = [b"%d" % v for v in range(draws.below(6))]
@@ -199,6 +205,18 @@ def ruled(words):
     if words[0] in RULED:
         return [j for j, word in enumerate(words) if word.isdigit()]
     return [j for j, word in enumerate(words) if word == b"faulty"]
+
+
+def with_name(draws, lines):
+    """The name of a group is another, where it is given or where it is used."""
+    keys = {b"group": 1, b"lie": 5}
+    named = [i for i, line in enumerate(lines) if line.split(b" ")[0] in keys]
+    if not named:
+        return with_byte(draws, lines)
+    i = draws.one_of(named)
+    words = [*lines[i].split(b" "), b"", b"", b"", b"", b""]
+    words[keys[words[0]]] = draws.one_of([b"all", b"left", b"right", b"none", b"Left", b"a" * 17])
+    return [*lines[:i], b" ".join(words).rstrip(b" "), *lines[i + 1 :]]
 
 
 def has_number(line):
@@ -239,11 +257,11 @@ def crowd(line, count):
 def crowded(draws, lines):
     """Lines of one kind are as many as may be, or one more."""
     keys = [b"group", b"era", b"slot", b"request", b"lie", b"level"]
-    places = [i for i, line in enumerate(lines) if line.split(b" ")[0] in keys]
-    if not places:
+    keys = [key for key in keys if any(line.startswith(key + b" ") for line in lines)]
+    if not keys or lines[0].startswith(b"halving") and keys == [b"group"]:
         return with_number(draws, lines)
-    i = draws.one_of(places)
-    key = lines[i].split(b" ")[0]
+    key = draws.one_of(keys)
+    i = draws.one_of([i for i, line in enumerate(lines) if line.startswith(key + b" ")])
     others = [line for line in lines[i + 1 :] if line.split(b" ")[0] != key]
     if key in (b"era", b"slot"):
         others = [line for line in others if not line.startswith(b"start node")]
@@ -261,7 +279,8 @@ def listed(draws, lines):
     return [*lines[:i], b" ".join([lines[i], *more]), *lines[i + 1 :]]
 
 
-CHANGES = [with_lines, with_words, with_number, with_number, with_byte, with_end, crowded, listed]
+CHANGES = [with_lines, with_words, with_number, with_byte, with_end, with_name, crowded, crowded,
+           listed]
 
 
 def near(draws, program, word):
@@ -299,8 +318,12 @@ def kind_of(word, written, refused):
 
 def drawn(seed, program, word):
     """Inputs of a word, with what must be answered, and of which kind that is."""
-    counts = collections.Counter()
-    for place in range(DRAWN):
+    counts, part = collections.Counter(), OWN.get(word, word)
+    part = "halving" if part == "plan" and program == "halvinglab" else part
+    rules = RULES[program][part].split()
+    for place in range(DRAWN_AT_MOST):
+        if place >= DRAWN and all(counts[part, rule] >= LEAST for rule in rules):
+            break
         data = near(Draws(f"{seed} {program} {word} {place}"), program, word)
         try:
             code, written, refused = judged(program, word, data, is_quick=True)
@@ -313,7 +336,8 @@ def drawn(seed, program, word):
 
 
 def ended(path, word, data):
-    ran = subprocess.run([path, word], input=data, stdout=subprocess.PIPE, stderr=subprocess.DEVNULL)
+    ran = subprocess.run([path, word], input=data, stdout=subprocess.PIPE,
+                         stderr=subprocess.DEVNULL)
     return ran.returncode, ran.stdout
 
 

@@ -2,8 +2,8 @@
 
     python3 bench/tools/plain_answers.py PROGRAM WORD < INPUT
 
-PROGRAM is counterlab or halvinglab. It writes what the program is to write for the word, and ends with
-its exit code. It shares no code with the proved programs and is no part of them; near_misses.py
+PROGRAM is counterlab or halvinglab. It writes what the program is to write for the word, and ends
+with its exit code. It shares no code with the proved programs and is no part of them; near_misses.py
 compares the two. Inputs of more than 2^20 bytes, or 1,000,000 packets, are not looked at.
 """
 

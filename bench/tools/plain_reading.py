@@ -1,7 +1,7 @@
 """Reads inputs of the words by docs/FORMATS.md alone, and says which line is refused and why.
 
-The other scripts of this folder take inputs as accepted ones; this one judges them. It shares no code
-with the proved programs and is no part of them. near_misses.py compares the two.
+The other scripts of this folder take inputs as accepted ones; this one judges them. It shares no
+code with the proved programs and is no part of them. near_misses.py compares the two.
 """
 
 import re
@@ -203,17 +203,17 @@ def read_requests(lines, plan):
     return [2]
 
 
-def read_values(lines):
-    values = lines.only("values")
-    lines.want(values <= 65536, "limit")
-    lines.want(values >= 2, "range")
-    return values
+def read_number(lines, word, least, most):
+    number = lines.only(word)
+    lines.want(number <= most, "limit")
+    lines.want(number >= least, "range")
+    return number
 
 
 def read_inputs(lines, plan):
     lines.begin("agree")
     lines.want(plan.modulus % slot_of(plan) == 0, "slot")
-    values = read_values(lines)
+    values = read_number(lines, "values", 2, 65536)
     lines.take()
     lines.want(lines.begins("inputs"))
     inputs = lines.numbers(1)
@@ -226,10 +226,8 @@ def read_inputs(lines, plan):
 def read_log(lines, plan):
     lines.begin("log")
     lines.want(plan.modulus % (plan.nodes * (slot_of(plan) + 1)) == 0, "slot")
-    values = read_values(lines)
-    keep = lines.only("keep")
-    lines.want(keep <= 1024, "limit")
-    lines.want(keep >= 1, "range")
+    values = read_number(lines, "values", 2, 65536)
+    read_number(lines, "keep", 1, 1024)
     for node in range(plan.nodes):
         lines.take()
         lines.want(lines.begins("commands") and len(lines.words) >= 3)
@@ -306,9 +304,8 @@ class Script:
         lines = self.lines
         first, last, sender = (lines.number(place) for place in (1, 2, 3))
         lines.want(len(lines.words) > 5 and lines.words[4] == "to")
-        hearers, place = [0, 0], 6
-        name = None if lines.words[5] == "all" else lines.words[5]
-        if NUMBER.fullmatch(lines.words[5]):
+        hearers, place, name = [0, 0], 6, lines.words[5]
+        if NUMBER.fullmatch(name):
             hearers, place, name = [lines.number(5), lines.number(6)], 7, None
         what = lines.words[place:]
         lines.want(what[:1] == ["noise"] and len(what) == 1 or len(what) == 2
@@ -327,7 +324,7 @@ class Script:
             lines.want(first <= last and hearers[0] <= hearers[1], "range")
             if what == "hex":
                 lines.digits(-1, self.plan.bytes(sender))
-            lines.want(name is None or name in self.names, "name")
+            lines.want(name in ["all", None, *self.names], "name")
             count += 1
             lines.take()
 
@@ -373,9 +370,9 @@ def read_node(lines, plan):
     lines.take()
     lines.want(lines.has("state", None))
     lines.digits(1, plan.bytes(node))
-    start = lines.words[1]
+    start = bytes.fromhex(lines.words[1])
     lines.end()
-    return node, bytes.fromhex(start), lines.data[lines.at :]
+    return node, start, lines.data[lines.at :]
 
 
 def read_want(lines):

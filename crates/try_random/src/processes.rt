@@ -19,7 +19,7 @@ use std::alloc::{AllocError, Global};
 const BEHIND: u64 = 24;
 
 /// How many halving plans are drawn.
-const DRAWN: u64 = 24;
+const DRAWN: u64 = 14;
 
 /// Whether a configuration of nodes that count by a modulus is as it should be, with the correct
 /// nodes locked at `now`, if they are, and at `before` in the configuration before: a lock goes on

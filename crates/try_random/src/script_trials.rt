@@ -9,7 +9,7 @@ use crate::draws::Draws;
 use crate::given_plans::{PLANS, WITH_SLOTS};
 
 /// How many plans are drawn of a source for runs that end soon, for each version of scripts.
-const DRAWN: u64 = 120;
+const DRAWN: u64 = 60;
 
 /// How many scripts are drawn for each plan with slots, each layer and each version of scripts.
 const WITH_LAYER: u64 = 2;

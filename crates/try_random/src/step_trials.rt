@@ -11,7 +11,7 @@ use reference::nodes::MOST_PACKETS;
 use std::alloc::AllocError;
 
 /// How many nodes are tried of each source, with plans that are drawn anew.
-const NODES: u64 = 240;
+const NODES: u64 = 120;
 
 /// How many packets a node hears at most.
 const PACKETS: u64 = 14;
