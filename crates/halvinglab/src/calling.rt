@@ -40,7 +40,7 @@ use std::alloc::Global;
 /// agree on, requests to fire or what a log has, and in place of rows write a line of each slot
 /// that counts: what its nodes decide, which of them fire, or the entry that they put. `node` reads
 /// a header, which has at most 2^20 bytes, and then packets, and writes the node's cell when the
-/// header has been read, and one after each packet before it reads on. `--help` and `--version`,
+/// header has been read, and one after each packet before it asks for more. `--help` and `--version`,
 /// alone, read nothing, and write what they say.
 ///
 /// `Usage` comes exactly if the words ask for nothing; nothing was read or written then. `Input`
