@@ -108,11 +108,11 @@ pub fn halvinglab<S: Source, K: Sink>(
     ensures layers { LayersKeepPromise }
 
     // Beyond scripts, of every run of an accepted plan, with a layer or without one, whatever its
-    // start, its lies and what its nodes keep. From T on at most one correct node holds; each slot that begins
-    // later ends with one decision, the common input of the round before it if there is one; with
-    // all firing or none, as they requested in the round before it if they did the same; and with
-    // one entry in all logs, which its owner commands if it is correct, so that logs grow as one.
-    // Inputs and commands may change from round to round.
+    // start, its lies and what its nodes keep. From T on at most one correct node holds; each slot
+    // that begins later ends with one decision, the common input of the round before it if there is
+    // one; with all firing or none, as they requested in the round before it if they did the same;
+    // and with one entry in all logs, which its owner commands if it is correct, so that logs grow
+    // as one. Inputs and commands may change from round to round.
     ensures every_run { EveryRunKeeps }
 
     // N calls of `node`, over a window of rounds that begins in each at a packet of its own: if
