@@ -212,8 +212,7 @@ NONE_BOOSTING = (
     b"none: FAULTS 5 takes MOST_NODES of at least 20; MOST_NODES 14 allows FAULTS of at most 4\n"
 )
 NONE_AT_ALL = (
-    b"none: FAULTS 40 is more than any boosting plan of at most 256 nodes, 16 blocks a level "
-    b"and a modulus of 2^40 tolerates; "
+    b"none: FAULTS 40 is more than any boosting plan of at most 256 nodes tolerates; "
 )
 
 
