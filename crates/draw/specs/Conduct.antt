@@ -56,7 +56,8 @@ SaysWhy other = ⊥
 -- what an error of a picture is
 abbrev pub IsErrorFor : DrawError → ProgramError NoRun → Type 0
 IsErrorFor (drawing.Chart (chart.Line line wanted)) given = SaysWhy given
-IsErrorFor drawing.Open given = SaysWhy given
+IsErrorFor (drawing.Unlike line) given = SaysWhy given
+IsErrorFor drawing.Apart given = SaysWhy given
 IsErrorFor (drawing.Chart chart.NoMemory) given = given ≡ error.NoMemory
 IsErrorFor drawing.NoMemory given = given ≡ error.NoMemory
 IsErrorFor drawing.Write given = given ≡ error.WriteFault

@@ -68,7 +68,8 @@ fn not_drawn(alloc: Global, error: DrawError) -> NotDrawn
 {
     match error {
         DrawError::Chart(ChartError::Line { .. }) => refused(alloc, error),
-        DrawError::Open => refused(alloc, error),
+        DrawError::Unlike { .. } => refused(alloc, error),
+        DrawError::Apart => refused(alloc, error),
         DrawError::Chart(ChartError::NoMemory) => ProgramError::NoMemory,
         DrawError::NoMemory => ProgramError::NoMemory,
         DrawError::Write => ProgramError::WriteFault,

@@ -1,9 +1,9 @@
 -- The text of a choice, a line for each plan, and where its plans belong: each one stands by its
 -- nodes, and by its bound on a scale of decades.
 use Rattle.std.specs.Prelude.{◌≡◌, ℕ, ◌+◌, ◌*◌, ◌/◌, ◌^◌, ◌<◌, ◌≤◌, ◌==◌, ◌&&◌, ◌||◌, nat_le}
-use Rattle.std.specs.Prelude.{nat_lt, Bool, true, List, [], ◌∷◌, ◌++◌, Option, Some, None, All}
+use Rattle.std.specs.Prelude.{nat_lt, not, Bool, true, List, [], ◌∷◌, ◌++◌, Option, Some, None, All}
 use Rattle.std.specs.Prelude.{if◌then◌else◌, codes, decimal, length}
-use Rattle.std.specs.List.{concat, flat_map}
+use Rattle.std.specs.List.{concat, flat_map, starts_with}
 use Rattle.run_pictures.specs.declared.choices.Choice.{Choice}
 use Rattle.run_pictures.specs.declared.choices.Point.{Point}
 use Rattle.run_pictures.specs.Sweeps.{AreChained}
@@ -14,7 +14,9 @@ abbrev pub point_words : Point → List ℕ
 point_words point = concat (
     codes "nodes " ∷ decimal point.nodes
     ∷ codes " bound " ∷ decimal point.bound
-    ∷ codes " " ∷ point.rest.now ∷ [])
+    ∷ codes " bytes " ∷ decimal point.bytes
+    ∷ codes " levels " ∷ decimal point.levels
+    ∷ codes " " ∷ point.plan.now ∷ [])
 
 abbrev pub point_line : Point → List ℕ
 point_line point = point_words point ++ codes "\n"
@@ -37,27 +39,28 @@ is_plain byte =
 abbrev pub on_scale : ℕ → ℕ
 on_scale bound = if bound == 0 then 1 else bound
 
--- whether a plan has more nodes than the one before it, if there is one, and a lesser bound
+-- whether a plan is a halving plan; else it is a boosting plan
+abbrev pub is_halving : Point → Bool
+is_halving point = starts_with (λ a b. a == b) point.plan.now (codes "halving ")
+
+-- Whether a plan has more nodes than the one before it, if there is one, and a lesser bound; or is
+-- the first boosting plan after halving plans.
 abbrev pub is_better : Option Point → Point → Bool
 is_better None point = true
 is_better (Some before) point =
-    nat_lt before.nodes point.nodes && nat_lt point.bound before.bound
-
--- how many plans stand before one
-abbrev pub place_behind : Option Point → ℕ
-place_behind None = 0
-place_behind (Some before) = before.place + 1
+    if is_halving before && not (is_halving point)
+    then true
+    else nat_lt before.nodes point.nodes && nat_lt point.bound before.bound
 
 -- A plan in its place, after the one before it: the decade of its bound, and the first two digits
 -- of that, or ten times a bound of one digit.
 pub record IsPlotted (before : Option Point) (point : Point) : Type 0 where
   pub better : is_better before point ≡ true
-  pub place : point.place ≡ place_behind before
   pub few : point.nodes ≤ 256
   pub least : 10 ^ point.decade ≤ on_scale point.bound
   pub most : on_scale point.bound < 10 * 10 ^ point.decade
   pub part : point.part ≡ on_scale point.bound * 10 / 10 ^ point.decade
-  pub plain : All (λ byte. is_plain byte ≡ true) point.rest.now
+  pub plain : All (λ byte. is_plain byte ≡ true) point.plan.now
 
 -- all plans of a choice
 abbrev pub ArePlotted : List Point → Type 0

@@ -3,7 +3,7 @@
 ghost use Rattle.std.specs.Prelude.{◌≡◌, ◌≤◌, ◌<◌, ◌^◌, ◌*◌, ◌/◌, ◌+◌, All, IfSome, true};
 ghost use Rattle.edge_io.specs.Writing.{Writes};
 ghost use Rattle.run_pictures.specs.Choices.{ArePlotted, IsPlotted, is_between, is_better};
-ghost use Rattle.run_pictures.specs.Choices.{is_plain, on_scale, place_behind, point_words};
+ghost use Rattle.run_pictures.specs.Choices.{is_halving, is_plain, on_scale, point_words};
 
 use edge_io::{Lines, Piece, Sink, Words, Writer, first_line, number};
 use picture_parts::{ChartError, LineError, Wanted, next_is, number_behind};
@@ -17,10 +17,10 @@ const MOST_BOUND: u64 = 1 << 50;
 pub struct Point<'a> {
     pub nodes: u32,
     pub bound: u64,
-    /// What stands after these in its line: other numbers, and its text.
-    pub rest: &'a [u8],
-    /// How many plans stand before it.
-    pub place: u32,
+    pub bytes: u64,
+    pub levels: u64,
+    /// Its text, in one line.
+    pub plan: &'a [u8],
     /// How many digits the bound has, less one.
     pub decade: u32,
     /// Its first two digits, or ten times a bound of one digit.
@@ -31,6 +31,8 @@ pub struct Point<'a> {
 #[derive(Drop)]
 pub struct Choice<'a> {
     pub points: Vec<Point<'a>>,
+    /// How many faults all of them tolerate, if it is one number.
+    pub faults: Option<u64>,
 }
 
 // ---- the text
@@ -44,8 +46,12 @@ pub fn put_point_words<K: Sink>(writer: &mut Writer<'_, K>, point: &Point<'_>)
         Piece::Number(u64::from(point.nodes)),
         Piece::Text(b" bound "),
         Piece::Number(point.bound),
+        Piece::Text(b" bytes "),
+        Piece::Number(point.bytes),
+        Piece::Text(b" levels "),
+        Piece::Number(point.levels),
         Piece::Text(b" "),
-        Piece::Text(point.rest),
+        Piece::Text(point.plan),
     ]);
 }
 
@@ -115,23 +121,27 @@ fn is_scaled(bound: u64, decade: u32, part: u32) -> bool
     }
 }
 
-/// Whether a plan has more nodes than the one before it, if there is one, and a lesser bound.
+/// Whether a plan is a halving plan; else it is a boosting plan.
+pub fn is_halving(point: Point<'_>) -> bool
+    ensures { result ≡ is_halving point.entry }
+{
+    point.plan.starts_with(b"halving ")
+}
+
+/// Whether a plan has more nodes than the one before it, if there is one, and a lesser bound; or is
+/// the first boosting plan after halving plans.
 fn is_better(before: Option<Point<'_>>, point: Point<'_>) -> bool
     ensures { result ≡ is_better before.entry point.entry }
 {
     match before {
         None => true,
-        Some(before) => before.nodes < point.nodes && point.bound < before.bound,
-    }
-}
-
-/// How many plans stand before one.
-fn place_behind(before: Option<Point<'_>>) -> u64
-    ensures { result ≡ place_behind before.entry }
-{
-    match before {
-        None => 0,
-        Some(before) => u64::from(before.place) + 1,
+        Some(before) => {
+            if is_halving(before) && !is_halving(point) {
+                true
+            } else {
+                before.nodes < point.nodes && point.bound < before.bound
+            }
+        }
     }
 }
 
@@ -140,10 +150,9 @@ fn is_plotted(before: Option<Point<'_>>, point: Point<'_>) -> bool
     ensures { result ≡ true → IsPlotted before.entry point.entry }
 {
     is_better(before, point)
-        && u64::from(point.place) == place_behind(before)
         && point.nodes <= 256
         && is_scaled(point.bound, point.decade, point.part)
-        && are_plain(point.rest)
+        && are_plain(point.plan)
 }
 
 /// Whether all plans are.
@@ -163,10 +172,10 @@ pub fn are_plotted(points: &[Point<'_>]) -> bool
 
 // ---- reading
 
-/// What stands after the first four words of a line.
-fn rest_of(line: &[u8]) -> &[u8] {
+/// What stands after the first eight words of a line.
+fn plan_of(line: &[u8]) -> &[u8] {
     let mut rest = line;
-    for _ in 0..4 {
+    for _ in 0..8 {
         match rest.iter().position(|byte| *byte == b' ') {
             Some(end) => rest = rest.get(end.saturating_add(1)..).unwrap_or(&[]),
             None => return &[],
@@ -175,16 +184,23 @@ fn rest_of(line: &[u8]) -> &[u8] {
     rest
 }
 
+/// The number after a key, both of which are the next words.
+fn number_next(words: &mut Words<'_>, key: &[u8]) -> Option<u64> {
+    if next_is(words, key) {
+        number(words.next()?)
+    } else {
+        None
+    }
+}
+
 /// What a line says.
 fn point_of(line: &[u8]) -> Option<Point<'_>> {
     let mut words = Words::new(line);
     let nodes = number_behind(&mut words, b"nodes")?;
-    if !next_is(&mut words, b"bound") {
-        return None;
-    }
-    let bound = number(words.next()?)?;
-    let rest = rest_of(line);
-    if bound >= MOST_BOUND || !rest.starts_with(b"bytes ") {
+    let bound = number_next(&mut words, b"bound")?;
+    let bytes = number_next(&mut words, b"bytes")?;
+    let levels = number_next(&mut words, b"levels")?;
+    if bound >= MOST_BOUND {
         return None;
     }
     let decade = on_scale(bound).checked_ilog10()?;
@@ -192,11 +208,44 @@ fn point_of(line: &[u8]) -> Option<Point<'_>> {
     Some(Point {
         nodes,
         bound,
-        rest,
-        place: 0,
+        bytes,
+        levels,
+        plan: plan_of(line),
         decade,
         part,
     })
+}
+
+/// The last part of a plan's text that says a level or a group, as `group 10 3 1000`.
+fn last_group(plan: &[u8]) -> &[u8] {
+    let mut last = 0;
+    let mut next = 0;
+    for place in 0..plan.len() {
+        if plan[place] == b';' {
+            last = next;
+            next = place + 1;
+        }
+    }
+    plan.get(last..next.saturating_sub(1)).unwrap_or(&[])
+}
+
+/// How many faults a plan tolerates, as its text says.
+fn faults_of(plan: &[u8]) -> Option<u64> {
+    let mut words = Words::new(last_group(plan));
+    let _word = words.next()?;
+    let _nodes = words.next()?;
+    number(words.next()?)
+}
+
+/// How many faults all plans tolerate, if it is one number.
+fn faults_in(points: &[Point<'_>]) -> Option<u64> {
+    let faults = faults_of(points.first()?.plan);
+    for point in points {
+        if faults_of(point.plan) != faults {
+            return None;
+        }
+    }
+    faults
 }
 
 /// Whether a text begins with a line of a choice.
@@ -210,12 +259,10 @@ pub fn is_choice(text: &[u8]) -> bool {
 
 /// Takes a line, after those before it.
 fn take<'a>(points: &mut Vec<Point<'a>>, line: &'a [u8]) -> Result<(), LineError> {
-    let Some(mut point) = point_of(line) else {
+    let Some(point) = point_of(line) else {
         return Err(LineError::Unwanted);
     };
-    let before = points.last().copied();
-    point.place = u32::try_from(place_behind(before)).unwrap_or(0);
-    if !is_plotted(before, point) {
+    if !is_plotted(points.last().copied(), point) {
         return Err(LineError::Unwanted);
     }
     points.push(point)?;
@@ -237,5 +284,6 @@ pub fn read_choice(alloc: Global, text: &[u8]) -> Result<Choice<'_>, ChartError>
             Err(LineError::NoMemory) => return Err(ChartError::NoMemory),
         }
     }
-    Ok(Choice { points })
+    let faults = faults_in(&points);
+    Ok(Choice { points, faults })
 }

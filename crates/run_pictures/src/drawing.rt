@@ -18,9 +18,12 @@ pub enum DrawError {
     /// A line is not what should stand there.
     #[error("{0}")]
     Chart(ChartError),
-    /// The last newline is missing.
-    #[error("the last line should end in a newline")]
-    Open,
+    /// A line, counted from 1, says what it should, but not in the letters in which it is written.
+    #[error("line {line} has a space or a zero that these programs do not write, or no newline")]
+    Unlike { line: u64 },
+    /// All lines are as they should be, but do not belong together.
+    #[error("the lines do not belong to one run, trace, sweep or choice")]
+    Apart,
     #[error("out of memory")]
     NoMemory,
     /// A write failed.
@@ -61,6 +64,32 @@ fn is_text_of<F: Figure>(alloc: Global, figure: &F, text: &[u8]) -> Result<bool,
     }
 }
 
+/// The line of the first byte at which what was written is not the text.
+fn unlike_line(written: &[u8], text: &[u8]) -> u64 {
+    let mut line: u64 = 1;
+    for (byte, other) in written.iter().zip(text) {
+        if byte != other {
+            return line;
+        }
+        if *byte == b'\n' {
+            line = line.saturating_add(1);
+        }
+    }
+    line
+}
+
+/// The first line of a text that is written otherwise than the text of a figure.
+fn unlike<F: Figure>(alloc: Global, figure: &F, text: &[u8]) -> Result<u64, NoMemory> {
+    let mut sink = MemSink::new(alloc, text.len(), Vec::new(alloc), Vec::new(alloc))?;
+    let mut writer = Writer::new(&mut sink);
+    figure.put_text(&mut writer);
+    match writer.finish() {
+        Ok(()) => {}
+        Err(WriteFault) => {}
+    }
+    Ok(unlike_line(sink.taken(), text))
+}
+
 /// Draws a figure, if its text is this one and all of it stands where it belongs.
 fn draw_figure<K: Sink, F: Figure>(
     alloc: Global,
@@ -72,8 +101,13 @@ fn draw_figure<K: Sink, F: Figure>(
     ensures { Does result (DrawsFigure F.text F.picture F.laid form text.now)
         (K.told sink.old) (K.told sink.new) }
 {
-    if !is_text_of(alloc, figure, text)? || !figure.is_laid() {
-        return Err(DrawError::Open);
+    let same = is_text_of(alloc, figure, text)?;
+    if !same {
+        let line = unlike(alloc, figure, text)?;
+        return Err(DrawError::Unlike { line });
+    }
+    if !figure.is_laid() {
+        return Err(DrawError::Apart);
     }
     let mut writer = Writer::new(sink);
     put_formed(&mut writer, form, text, figure);
@@ -87,9 +121,10 @@ fn draw_figure<K: Sink, F: Figure>(
 /// of a chart, of a trace, of a sweep or of a choice, letter for letter, and the
 /// picture of this was written, or the page of it.
 ///
-/// `Chart` comes if a line is not what should stand there, `Open` if the last newline is missing,
-/// `NoMemory` if memory ran out; then nothing was written. `Write` comes if the sink counted a
-/// fault; a prefix of the picture was then taken.
+/// `Chart` comes if a line is not what should stand there, `Unlike` if one is written otherwise
+/// than these programs write it, as without the last newline, `Apart` if the lines do not belong
+/// together, and `NoMemory` if memory ran out; then nothing was written. `Write` comes if the sink
+/// counted a fault; a prefix of the picture was then taken.
 pub fn draw<K: Sink>(alloc: Global, text: &[u8], form: Form, sink: &mut K) -> Result<(), DrawError>
     ensures { Does result (DrawsAs form text.now) (K.told sink.old) (K.told sink.new) }
 {
