@@ -255,8 +255,7 @@ def check_none(binary):
                     assert found[0] != 'none\n' and found[1] == '', (words, faults, nodes, found)
                     continue
                 need = (f'takes MOST_NODES of at least {fewest}' if fewest else
-                        'is more than any boosting plan of at most 256 nodes, 16 blocks a level '
-                        'and a modulus of 2^40 tolerates')
+                        'is more than any boosting plan of at most 256 nodes tolerates')
                 line = (f'none: FAULTS {faults} {need}; MOST_NODES {nodes} allows FAULTS of at most '
                         f'{most}\n')
                 assert found == ('none\n', line), (words, faults, nodes, found)

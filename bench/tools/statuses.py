@@ -34,7 +34,7 @@ SAY_VERSION = {
 }
 DRAWN = EXAMPLES / "pictures"
 # the kinds of `attack`, and for each word `run` a plan that it plays
-KINDS = ["noise", "frozen", "split", "king", "shadow", "half"]
+KINDS = ["noise", "frozen", "split", "king", "shadow", "left", "right"]
 PLANS = {
     "counterlab": b"plan 2\nbase 576\nlevel 3 1 10 spare 1\nend\n",
     "halvinglab": b"halving 1\ngroup 7 2 10\nend\n",
@@ -212,8 +212,7 @@ NONE_BOOSTING = (
     b"none: FAULTS 5 takes MOST_NODES of at least 20; MOST_NODES 14 allows FAULTS of at most 4\n"
 )
 NONE_AT_ALL = (
-    b"none: FAULTS 40 is more than any boosting plan of at most 256 nodes, 16 blocks a level "
-    b"and a modulus of 2^40 tolerates; "
+    b"none: FAULTS 40 is more than any boosting plan of at most 256 nodes tolerates; "
 )
 
 

@@ -5,6 +5,8 @@ pub mod SaysLines
 pub mod LinesLeave
 pub mod ReadAttacks
 pub mod BestOfTries
+pub mod LeanBests
+pub mod RequestsWorked
 pub mod FirstLock
 pub mod DrawsWorked
 pub mod AttacksWorked

@@ -7,3 +7,5 @@ pub mod Both
 pub mod HalvingPlanTexts
 pub mod MostFaults
 pub mod Short
+pub mod Limits
+pub mod ChoicesWorked

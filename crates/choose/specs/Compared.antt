@@ -1,4 +1,5 @@
--- A boosting plan, and the halving plan that tolerates as many faults and counts by the same number.
+-- A boosting plan, and the halving plan that tolerates as many faults and counts by the same
+-- number.
 use Rattle.std.specs.Prelude.{ℕ, ◌+◌, ◌*◌, ◌<◌, ◌≤◌}
 use Rattle.construction.specs.Plans.{Plan, plan_nodes, plan_faults, plan_modulus, plan_bound}
 use Rattle.plan_numbers.specs.Premises as boosting

@@ -48,8 +48,8 @@ abbrev pub both_plan_text : Option AnyPlan → List ℕ
 both_plan_text None = none_line
 both_plan_text (Some plan) = any_text plan
 
--- The text of an accepted halving plan is read as that plan. It is also what a line says of the plan,
--- with a newline in place of each semicolon.
+-- The text of an accepted halving plan is read as that plan. It is also what a line says of the
+-- plan, with a newline in place of each semicolon.
 abbrev pub HalvingTextsArePlans : Type 0
 HalvingTextsArePlans =
     (plan : HalvingNumbers) → IsAccepted plan

@@ -10,3 +10,5 @@ pub mod Reasons
 pub mod Conduct
 pub mod MostFaults
 pub mod Shortages
+pub mod Limits
+pub mod ChoicesWorked

@@ -22,8 +22,7 @@ IsIn scope.Boosting (Halving plan) = ⊥
 abbrev pub CanTolerate : Scope → (n f : ℕ) → Type 0
 CanTolerate scope n f = (plan : AnyPlan) × IsIn scope plan × Tolerates n f plan
 
--- How many nodes f faults take, None if no plan of at most 256 nodes tolerates them. Accepted plans
--- have at most 16 blocks a level and moduli up to 2^40, too.
+-- How many nodes f faults take, None if no plan of at most 256 nodes tolerates them.
 abbrev pub AreFewest : Scope → (f : ℕ) → Option ℕ → Type 0
 AreFewest scope f (Some n) = CanTolerate scope n f × ((m : ℕ) → CanTolerate scope m f → n ≤ m)
 AreFewest scope f None = (m : ℕ) → m ≤ 256 → ¬ CanTolerate scope m f
@@ -62,8 +61,7 @@ nodes_part f (Some n) = concat (
     ∷ codes " takes MOST_NODES of at least " ∷ decimal n ∷ [])
 nodes_part f None = concat (
     codes "none: FAULTS " ∷ decimal f
-    ∷ codes " is more than any boosting plan of at most 256 nodes, 16 blocks a level "
-    ∷ codes "and a modulus of 2^40 tolerates" ∷ [])
+    ∷ codes " is more than any boosting plan of at most 256 nodes tolerates" ∷ [])
 
 abbrev pub faults_part : (n f : ℕ) → List ℕ
 faults_part n f = concat (

@@ -7,13 +7,16 @@ ghost use Rattle.choose.specs.FrontText.{TextsArePlans};
 ghost use Rattle.choose.specs.FrontsOfBothText.{HalvingTextsArePlans};
 ghost use Rattle.choose.specs.Shortages.{ModulusDecidesNothing};
 ghost use Rattle.choose.specs.Compared.{BoostingIsOutdone};
+ghost use Rattle.choose.specs.ChoicesWorked.{ChoicesAreWorked};
+ghost use Rattle.choose.specs.Limits.{NodesEndTables};
 ghost use Rattle.choose.specs.declared.requests.Request.TheVariants as request;
 ghost use Rattle.plan_finder.specs.FindPart.{IsFit};
 
 use crate::fronts::front;
 use crate::fronts_of_both::front_of_both;
 use crate::laws::{
-    boosting_is_outdone, halving_texts_are_plans, modulus_decides_nothing, texts_are_plans,
+    boosting_is_outdone, choices_are_worked, halving_texts_are_plans, modulus_decides_nothing,
+    nodes_end_tables, texts_are_plans,
 };
 use crate::most_faults::most_plan;
 use crate::reasons::ChooseError;
@@ -143,8 +146,13 @@ pub fn explain_none<K: Sink>(
 
     // There is no plan for these wants exactly if there is none, whatever it counts by.
     ensures modulus { ModulusDecidesNothing }
+
+    // Where no boosting plan tolerates the faults, it is for the limit of 256 nodes: a plan that
+    // keeps the other limits tolerates them.
+    ensures limit { NodesEndTables }
 {
     modulus_decides_nothing();
+    nodes_end_tables();
     match request_of(words) {
         Some(Request::Front(scope, want)) => write_why(alloc, scope, &want, sink),
         Some(Request::LastPlan(scope, want)) => write_why(alloc, scope, &want, sink),
@@ -177,10 +185,14 @@ pub fn choose<K: Sink>(alloc: Global, words: &[String], sink: &mut K) -> Result<
     // The halving plan of as many faults and the same modulus has no more nodes than a boosting
     // plan that tolerates a fault, and a lesser bound.
     ensures outdone { BoostingIsOutdone }
+
+    // Worked values: what words ask for, and a line of each construction, letter by letter.
+    ensures worked { ChoicesAreWorked }
 {
     texts_are_plans();
     halving_texts_are_plans();
     boosting_is_outdone();
+    choices_are_worked();
     match asked_by(words, request_of(words)) {
         Asked::Help => Ok(put_all(sink, HELP)?),
         Asked::Version => Ok(put_all(sink, b"choose 2.0\n")?),

@@ -113,10 +113,7 @@ fn put_nodes<K: Sink>(writer: &mut Writer<'_, K>, faults: u64, nodes: Option<u64
         None => writer.pieces(&[
             Piece::Text(b"none: FAULTS "),
             Piece::Number(faults),
-            Piece::Text(
-                b" is more than any boosting plan of at most 256 nodes, 16 blocks a level ",
-            ),
-            Piece::Text(b"and a modulus of 2^40 tolerates"),
+            Piece::Text(b" is more than any boosting plan of at most 256 nodes tolerates"),
         ]),
     }
 }

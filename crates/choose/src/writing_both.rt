@@ -3,7 +3,8 @@
 ghost use Rattle.std.specs.Prelude.{◌++◌};
 ghost use Rattle.texts.specs.Growth.{Puts};
 ghost use Rattle.edge_io.specs.Writing.{Writes};
-ghost use Rattle.choose.specs.FrontsOfBothText.{halving_numbers_part, halving_line_part, any_line, any_text};
+ghost use Rattle.choose.specs.FrontsOfBothText.{halving_numbers_part, halving_line_part};
+ghost use Rattle.choose.specs.FrontsOfBothText.{any_line, any_text};
 ghost use Rattle.choose.specs.FrontsOfBothText.{both_front_text, both_plan_text};
 
 use crate::any_plans::AnyPlan;
