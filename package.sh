@@ -1,7 +1,8 @@
 #!/bin/sh
 # Packs what install.sh installs into one tar, for a machine that has no kit.
 #
-#     ./package.sh [FOLDER]      as in: ./package.sh /tmp
+#     ./package.sh [FOLDER]                       as in: ./package.sh /tmp
+#     ./package.sh --target aarch64 [FOLDER]      for 64-bit ARM: see arm64/package.sh
 #
 # It writes counterlab-VERSION-x86_64-linux.tar.gz and its checksum into FOLDER, or here. The tar
 # has one folder with the programs (bin), their manual pages (share/man), the library and its header
@@ -14,7 +15,17 @@
 # machine lets one be entered; the quick commands of the pages in its folder, if there is python3;
 # and the library under a first program, if there is gcc. If one of these fails there is no tar.
 set -eu
-[ $# -le 1 ] || { echo "usage: ./package.sh [FOLDER]" >&2; exit 2; }
+umask 022
+usage() {
+    echo "usage: ./package.sh [FOLDER], or ./package.sh --target aarch64 [FOLDER]" >&2
+    exit 2
+}
+if [ "${1:-}" = --target ]; then
+    [ "${2:-}" = aarch64 ] || usage
+    shift 2
+    exec "$(dirname "$0")/arm64/package.sh" "$@"
+fi
+[ $# -le 1 ] || usage
 folder=$(cd "${1:-.}" && pwd)
 cd "$(dirname "$0")"
 name=counterlab-$(cat VERSION)-x86_64-linux
@@ -70,6 +81,7 @@ enter() { # runs a program of the package in that root
 }
 
 if enter counterlab-choose --version > /dev/null 2>&1; then
+    # counterlab has no word for its version: its stored run below stands for it
     for program in halvinglab counterlab-attack counterlab-choose counterlab-draw counterlab-states \
         counterlab-sweep counterlab-trace; do
         [ "$(enter $program --version | cut -d ' ' -f 2)" = "$(cat VERSION)" ] ||

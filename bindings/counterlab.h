@@ -50,6 +50,42 @@ enum {
     COUNTERLAB_SINGLE /* of a halving plan: it tolerates no faults, and has more than one node */
 };
 
+/* What an answer's code and detail say, in words for a person. The text is a constant: never null,
+ * and nobody frees it. */
+static inline const char *counterlab_told(uint32_t code, uint32_t detail) {
+    switch (code) {
+    case COUNTERLAB_OK: return "answered";
+    case COUNTERLAB_PLAN:
+        switch (detail) {
+        case COUNTERLAB_FORM: return "refused by form: the line is not one that may stand there";
+        case COUNTERLAB_LIMIT: return "refused by limit: a number is too large";
+        case COUNTERLAB_BLOCKS: return "refused by blocks: a level has fewer than three";
+        case COUNTERLAB_MODULUS: return "refused by modulus: it is below 2";
+        case COUNTERLAB_QUORUM: return "refused by quorum: too few nodes for so many faults";
+        case COUNTERLAB_SHARE: return "refused by share: its blocks tolerate too few faults";
+        case COUNTERLAB_MULTIPLE:
+            return "refused by multiple: the modulus below is no multiple of the span";
+        case COUNTERLAB_SINGLE: return "refused by single: no faults, but more than one node";
+        default: return "the plan is refused";
+        }
+    case COUNTERLAB_ARGUMENT:
+        switch (detail) {
+        case COUNTERLAB_NO_NODE: return "the plan has no such node";
+        case COUNTERLAB_LENGTH: return "the state has another length than the node's";
+        default: return "an argument is wrong";
+        }
+    case COUNTERLAB_TOO_LONG: return "there are more than 1,000,000 packets";
+    case COUNTERLAB_CUT: return "the bytes end inside a packet";
+    case COUNTERLAB_NO_MEMORY: return "memory was refused";
+    default: return "no code of this library";
+    }
+}
+
+/* What the first line of a plan may be, that is not skipped: if line 1 is refused by form. */
+static inline const char *counterlab_first_line(void) {
+    return "`plan 1`, `plan 2` or `halving 1`";
+}
+
 /* The numbers of a plan. */
 struct counterlab_plan_numbers {
     uint32_t nodes;   /* 1 to 256; their ids are 0 to nodes - 1 */

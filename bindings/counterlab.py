@@ -1,7 +1,7 @@
 """The proved step of a node, for Python: ctypes over libcounterlab_c.so.
 
-COUNTERLAB_SO names the shared object, else it is looked for beside this file. docs/LIBRARY.md says
-how to link it.
+COUNTERLAB_SO names the shared object, else it is looked for beside this file, and where install.sh
+puts it. docs/LIBRARY.md says how to link it.
 """
 
 import ctypes
@@ -24,17 +24,68 @@ class PlanNumbers(ctypes.Structure):
     ]
 
 
+OK, PLAN, ARGUMENT, TOO_LONG, CUT, NO_MEMORY = 0, 1, 3, 8, 9, 10
+NO_NODE, LENGTH = 1, 2  # wrong arguments
+FORM, LIMIT, BLOCKS, MODULUS, QUORUM, SHARE, MULTIPLE, SINGLE = range(1, 9)  # premises of a plan
+
+MOST_BYTES = 128  # no state has more
+FIRST_LINE = "`plan 1`, `plan 2` or `halving 1`"  # what the first line of a plan may be
+
+_CODES = {
+    OK: "answered",
+    PLAN: "the plan is refused",
+    ARGUMENT: "an argument is wrong",
+    TOO_LONG: "there are more than 1,000,000 packets",
+    CUT: "the bytes end inside a packet",
+    NO_MEMORY: "memory was refused",
+}
+_DETAILS = {
+    (PLAN, FORM): "refused by form: the line is not one that may stand there",
+    (PLAN, LIMIT): "refused by limit: a number is too large",
+    (PLAN, BLOCKS): "refused by blocks: a level has fewer than three",
+    (PLAN, MODULUS): "refused by modulus: it is below 2",
+    (PLAN, QUORUM): "refused by quorum: too few nodes for so many faults",
+    (PLAN, SHARE): "refused by share: its blocks tolerate too few faults",
+    (PLAN, MULTIPLE): "refused by multiple: the modulus below is no multiple of the span",
+    (PLAN, SINGLE): "refused by single: no faults, but more than one node",
+    (ARGUMENT, NO_NODE): "the plan has no such node",
+    (ARGUMENT, LENGTH): "the state has another length than the node's",
+}
+
+
+def told(code, detail):
+    """What an answer's code and detail say, in words for a person."""
+    return _DETAILS.get((code, detail)) or _CODES.get(code, "no code of this library")
+
+
 class CallError(Exception):
-    """A call was not answered; docs/LIBRARY.md has the codes."""
+    """A call was not answered: `code`, `detail` and `value` are the answer's, and the text says it
+    in words."""
 
     def __init__(self, answer):
         self.code, self.detail, self.value = answer.code, answer.detail, answer.value
-        super().__init__(f"code {self.code}, detail {self.detail}, value {self.value}")
+        text = told(self.code, self.detail)
+        if self.code == PLAN:
+            text += f" (line {self.value})"
+            if (self.detail, self.value) == (FORM, 1):
+                text += f": it should be {FIRST_LINE}"
+        if self.code == CUT:
+            text += f" (packet {self.value}, the cell of node {self.detail})"
+        super().__init__(text)
+
+
+def _shared():
+    """The path of the shared object."""
+    here = pathlib.Path(__file__).resolve().parent
+    named = os.environ.get("COUNTERLAB_SO")
+    # install.sh puts this file into PREFIX/share/counterlab/python
+    installed = here.parent.parent.parent / "lib" / "libcounterlab.so"
+    beside = here / "libcounterlab_c.so"
+    return named or str(installed if installed.exists() and not beside.exists() else beside)
 
 
 def _load():
-    beside = pathlib.Path(__file__).resolve().parent / "libcounterlab_c.so"
-    library = ctypes.CDLL(os.environ.get("COUNTERLAB_SO", str(beside)))
+    library = ctypes.CDLL(_shared())
     text, size, node = ctypes.c_char_p, ctypes.c_size_t, ctypes.c_uint32
     for name, arguments in {
         "counterlab_plan": [text, size, ctypes.POINTER(PlanNumbers)],

@@ -2,15 +2,20 @@
 """Builds the static library, links it, and tries it from C, C++, Python and Rust.
 
     python3 bench/library/try.py              build the archive by `rt lib`
-    python3 bench/library/try.py --after-ci   build it over the libraries that `rt ci` has left
+    python3 bench/library/try.py --after-ci   build it over the libraries that `rt ci` has left, and
+                                              for 64-bit ARM, if its compiler and qemu are here
     python3 bench/library/try.py ARCHIVE      take this archive
+    python3 bench/library/try.py ARCHIVE --compiler CC --runner WORDS --heap FILE
+        an archive for another machine: CC compiles for it, FILE in C has the heap, and what is made
+        is run by these words, as `qemu-aarch64 -L /usr/aarch64-linux-gnu`
 
 Random steps of nine plans of both constructions, and calls that are refused, have to give what the
 plain step of calls.py gives, and of boosting plans what `counterlab node` writes if the program
 is built; the numbers of the example plans have to be those of their stored tables; each allocation
-is refused in turn. A line says what was not tried, and why. The status is 1 if an answer is not
-what it has to be, or what was proved is not compiled or linked. A tool that is missing or does not
-work is no failure, nor is a machine that has too little memory, or takes more than ten minutes.
+is refused in turn; and the loops of examples/library/ have to act when they should. A line says
+what was not tried, and why. The status is 1 if an answer is not what it has to be, or what was
+proved is not compiled or linked. A tool that is missing or does not work is no failure, nor is a
+machine that has too little memory, or takes more than ten minutes.
 """
 
 import functools
@@ -38,6 +43,7 @@ PROGRAM = CRATES / "counterlab" / "out" / "counterlab"
 PLAN_EXAMPLES = CRATES / "try_examples" / "data" / "plans"
 REFUSED = CRATES / "try_examples" / "data" / "refused_plans"
 PREMISES = ["form", "limit", "blocks", "modulus", "quorum", "share", "multiple", "single"]
+ARM = "aarch64-linux-gnu-"
 STEPS = 1000
 MINUTES = 10
 KILLED = -9  # as for want of memory
@@ -66,6 +72,19 @@ REFUSED_HALVING = [
 ]
 
 
+# A program at the end of the crate's file, whose calls it does not make.
+TOLD_BY_RUST = """
+fn main() {
+    for code in 0..12 {
+        for detail in 0..10 {
+            println!("{code} {detail} {}", told(code, detail));
+        }
+    }
+    println!("{FIRST_LINE}");
+}
+"""
+
+
 class Skipped(Exception):
     """Something cannot be tried here."""
 
@@ -88,11 +107,26 @@ class Clock:
         return max(1, cls.end - time.monotonic())
 
 
+class Machine:
+    """Another machine that is tried: its compiler in the place of gcc, and what runs its programs,
+    which stand in a folder of their own."""
+
+    compiler, runner, folder = None, [], None
+
+    @classmethod
+    def command(cls, command):
+        first, *rest = map(str, command)
+        if cls.compiler and first == "gcc":
+            return [*cls.compiler, *rest]
+        is_made = cls.folder and first.startswith(f"{cls.folder}/")
+        return [*cls.runner, first, *rest] if is_made else [first, *rest]
+
+
 def status_of(command, **how):
     """The status of a command, and what it printed."""
     if "input" not in how:
         how["stdin"] = subprocess.DEVNULL
-    words = [str(it) for it in command]
+    words = Machine.command(command)
     how = {"stdout": subprocess.PIPE, "stderr": subprocess.STDOUT, "timeout": Clock.left(), **how}
     try:
         ran = subprocess.run(words, **how)
@@ -115,6 +149,7 @@ def run(command, **how):
 
 
 def needs(tool):
+    tool = Machine.compiler[0] if Machine.compiler and tool == "gcc" else tool
     if not shutil.which(tool):
         raise Skipped(f"there is no {tool} here")
 
@@ -150,8 +185,9 @@ def uses():
     return rows
 
 
-def build_after_ci():
-    """Builds the archive over the libraries that `rt ci` proved and left in each crate's out/."""
+def build_after_ci(to=ARCHIVE, *more):
+    """Builds the archive over the libraries that `rt ci` proved and left in each crate's out/; for
+    another machine, for which the crate is proved anew, if its target is among more words."""
     rows, below, left = uses(), [], ["counterlab_c"]
     while left:
         for name in rows[left.pop()]:
@@ -174,8 +210,8 @@ def build_after_ci():
         command += ["-L", f"dependency={rlib(name).parent}"]
     command += ["--antt-project", f"{kit()}/rattle/logic/antt-project.json"]
     command += ["--logic-built", f"{kit()}/logic_built", "--toolchain", f"{kit()}/toolchain"]
-    command += ["--links", "counterlab_c=", "--crate-type", "staticlib", "-o", ARCHIVE]
-    ARCHIVE.parent.mkdir(exist_ok=True)
+    command += ["--links", "counterlab_c=", "--crate-type", "staticlib", *more, "-o", to]
+    to.parent.mkdir(exist_ok=True)
     status, said = status_of(command, cwd=CRATES / "counterlab_c")
     # 1: it is not proved over these libraries, or the backend cannot compile it
     if status == 1:
@@ -307,6 +343,17 @@ def plan_numbers():
             yield " ".join([hexed(calls.text_of(plan)), *map(str, numbers)]) + "\n"
 
 
+def acts_as_said(text):
+    """Whether the nodes of loop.c act in the rounds in which they should, all on one number."""
+    rows = [line.split()[1:] for line in text.decode().splitlines()]
+    numbers = [set(row[:2]) - {"-"} for row in rows]
+    all_act = [len(numbers[t]) == 1 and "-" not in row for t, row in enumerate(rows)]
+    missed = all(row[1] == "-" for row in rows[60:76])
+    failed = not any(numbers[101:130])
+    good = all(all_act[20:60]) and all(all_act[80:100]) and all(all_act[150:])
+    return len(rows) == 160 and all(len(it) < 2 for it in numbers) and missed and failed and good
+
+
 def hexed(data):
     return data.hex() or "-"
 
@@ -420,6 +467,44 @@ class Tried:
     def threads(self):
         return run([self.link("gcc", "threads", flags=["-pthread"])]).decode().strip()
 
+    def told(self):
+        """What the header says of codes, and the same by Python and by Rust."""
+        needs_compiler("gcc", "c")
+        strict = ["-std=c11", "-pedantic-errors", "-Wall", "-Wextra", "-Werror"]
+        program = self.room / "told"
+        run(["gcc", *strict, "-I", BINDINGS, "-o", program, HERE / "told.c"])
+        said = run([program]).decode()
+        # the module without its library
+        text = (BINDINGS / "counterlab.py").read_text().replace("_library = _load()", "")
+        names = {"__file__": str(BINDINGS / "counterlab.py")}
+        exec(compile(text, "counterlab.py", "exec"), names)
+        pairs = [(code, detail) for code in range(12) for detail in range(10)]
+        lines = [f"{code} {detail} {names['told'](code, detail)}" for code, detail in pairs]
+        if said.splitlines() != [*lines, names["FIRST_LINE"]]:
+            raise Failed("counterlab.h and counterlab.py say different texts of a code")
+        if not shutil.which("rustc"):
+            return "the header and Python say the same; there is no rustc"
+        source, program = self.room / "told.rs", self.room / "told.rust"
+        rust = (BINDINGS / "rust" / "src" / "lib.rs").read_text()
+        source.write_text("#![allow(dead_code)]\n" + rust.replace("//!", "//") + TOLD_BY_RUST)
+        if status_of(["rustc", "--edition", "2021", "-o", program, source, "-C",
+                      "link-arg=-Wl,--unresolved-symbols=ignore-all"])[0]:
+            raise Skipped("rustc builds no program here")
+        if run([program]).decode() != said:
+            raise Failed("counterlab.h and the crate of Rust say different texts of a code")
+        return "the header, Python and Rust say the same of each code"
+
+    def acts(self):
+        """When the nodes of loop.c act."""
+        return run([self.link("gcc", "loop", FIRST / "node_loop.c", flags=["-pthread"])])
+
+    def loop(self):
+        """The loop of node_loop.c: a tick that is missed, and a liar too many."""
+        found = self.acts()
+        if not acts_as_said(found):
+            raise Failed(f"nodes act otherwise than they should:\n{found.decode()}")
+        return "nodes act when they should, and else do not"
+
     def python(self):
         """The shared object by ctypes, in a process of its own."""
         try:
@@ -435,9 +520,12 @@ class Tried:
         found = {"COUNTERLAB_SO": str(shared), "PYTHONPATH": str(BINDINGS)}
         how = {"env": {**os.environ, **found}}
         said = run([sys.executable, FIRST / "four_nodes.py"], **how).decode().splitlines()
-        if said[-1:] != ["4 0112 0112 0112 48"]:
+        if said[-1:] != ["4 3300 6600 9800 9800"]:
             raise Failed(f"four_nodes.py ended with {said[-1:]}")
         run([sys.executable, FIRST / "thirteen_nodes.py"], **how)
+        path = {"PYTHONPATH": os.pathsep.join([str(BINDINGS), str(FIRST)])}
+        if run([sys.executable, HERE / "loop.py"], env={**how["env"], **path}) != self.acts():
+            raise Failed("node_loop.py acts otherwise than node_loop.c")
         return run([sys.executable, HERE / "by_ctypes.py", cases], **how).decode().strip()
 
     def rust(self):
@@ -462,6 +550,11 @@ class Tried:
         program = self.room / "cargo" / "release" / "counterlab_nodes"
         self.cases_by(program)
         numbers = self.plans_by(program)
+        shutil.copyfile(HERE / "loop.rs", crate / "src" / "main.rs")
+        shutil.copyfile(FIRST / "node_loop.rs", crate / "src" / "node_loop.rs")
+        run(build, cwd=crate, env=env)
+        if run([program]) != self.acts():
+            raise Failed("node_loop.rs acts otherwise than node_loop.c")
         archive.write_bytes(b"no archive")
         if status_of(build, cwd=crate, env=env)[0] == 0:
             raise Failed("an archive that has changed is not linked anew")
@@ -482,45 +575,94 @@ class Tried:
         return f"{STEPS} steps are the same"
 
 
-def main():
-    words = sys.argv[1:]
-    if len(words) > 1 or words and words[0].startswith("-") and words[0] != "--after-ci":
+def options(words):
+    """The words that are no options, and the options by their names."""
+    found = {}
+    for name in ("--compiler", "--runner", "--heap"):
+        if name in words:
+            at = words.index(name)
+            found[name] = words[at + 1]
+            words = words[:at] + words[at + 2 :]
+    if found and len(found) < 3 or len(words) > 1:
         sys.exit(__doc__)
+    if words and words[0].startswith("-") and words[0] != "--after-ci":
+        sys.exit(__doc__)
+    return words, found
+
+
+def trials(tried):
+    """What is tried on this machine, or on another one."""
+    names = [("gcc", lambda: tried.c("gcc")), ("a first program", tried.first)]
+    names += [("an arena", tried.arena), ("memory", tried.memory), ("threads", tried.threads)]
+    names += [("the loop", tried.loop)]
+    if Machine.compiler:
+        return names
+    names[1:1] = [(it, functools.partial(tried.c, it)) for it in ("clang",)]
+    names[2:2] = [(it, functools.partial(tried.c_plus_plus, it)) for it in ("g++", "clang++")]
+    names += [("what codes say", tried.told), ("python", tried.python), ("rust", tried.rust)]
+    return [*names, ("program", tried.program)]
+
+
+def try_all(title, make):
+    """Tries what `make` gives, an archive and the heap, in a folder of its own; how many failed."""
     failed = 0
-
-    def report(name, call, *given):
-        nonlocal failed
-        try:
-            print(f"library: {name}: {call(*given)}", flush=True)
-        except (Skipped, OSError) as why:
-            print(f"library: {name}: not tried: {why}", flush=True)
-        except Failed as why:
-            failed += 1
-            print(f"library: {name}: FAILED: {why}", flush=True)
-
-    Clock.start()
-    try:
-        needs_compiler("gcc", "c")
-        made, heap = archive(words), kit() / "c" / "liblibc_c.a"
-    except (Skipped, OSError) as why:
-        print(f"library: not tried: {why}")
-        return 0
-    except Failed as why:
-        print(f"library: FAILED: {why}")
-        return 1
     with tempfile.TemporaryDirectory(prefix="counterlab-library-") as name:
-        tried = Tried(pathlib.Path(name), made, heap)
-        report("gcc", tried.c, "gcc")
-        report("clang", tried.c, "clang")
-        report("g++", tried.c_plus_plus, "g++")
-        report("clang++", tried.c_plus_plus, "clang++")
-        report("a first program", tried.first)
-        report("an arena", tried.arena)
-        report("memory", tried.memory)
-        report("threads", tried.threads)
-        report("python", tried.python)
-        report("rust", tried.rust)
-        report("program", tried.program)
+        room = pathlib.Path(name)
+        Machine.folder = name
+        try:
+            needs_compiler("gcc", "c")
+            made, heap = make(room)
+            Clock.start()
+            tried = trials(Tried(room, made, heap))
+        except (Skipped, OSError) as why:
+            print(f"{title}: not tried: {why}")
+            return 0
+        except Failed as why:
+            print(f"{title}: FAILED: {why}")
+            return 1
+        for what, call in tried:
+            try:
+                print(f"{title}: {what}: {call()}", flush=True)
+            except (Skipped, OSError) as why:
+                print(f"{title}: {what}: not tried: {why}", flush=True)
+            except Failed as why:
+                failed += 1
+                print(f"{title}: {what}: FAILED: {why}", flush=True)
+    return failed
+
+
+def heap_of(room, source):
+    """The heap in C, compiled for the machine that is tried."""
+    made = room / "heap.o"
+    run(["gcc", "-std=c11", "-O2", "-DLIBRARY", "-c", "-o", made, source])
+    return made
+
+
+def arm_after_ci():
+    """The library for 64-bit ARM, over what `rt ci` left, where its compiler and qemu are."""
+    Machine.compiler, root = [f"{ARM}gcc"], "/usr/aarch64-linux-gnu"
+    Machine.runner = ["qemu-aarch64", "-L", root]
+    needs_compiler.cache_clear()
+
+    def make(room):
+        needs("qemu-aarch64")
+        made = room / "libcounterlab_c.a"
+        build_after_ci(made, "--target", "aarch64-unknown-linux-gnu")
+        return made, heap_of(room, TOP / "arm64" / "system.c")
+
+    return try_all("library on ARM", make)
+
+
+def main():
+    words, other = options(sys.argv[1:])
+    Clock.start()
+    if other:
+        Machine.compiler, Machine.runner = other["--compiler"].split(), other["--runner"].split()
+        make = lambda room: (archive(words), heap_of(room, other["--heap"]))
+        return 1 if try_all("library for another machine", make) else 0
+    failed = try_all("library", lambda _: (archive(words), kit() / "c" / "liblibc_c.a"))
+    if words == ["--after-ci"]:
+        failed += arm_after_ci()
     return 1 if failed else 0
 
 

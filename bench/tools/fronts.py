@@ -15,7 +15,7 @@ plan of F faults or more.
                               it is accepted and has the numbers of its line
   fronts.py both MOST < LIST  the same of what `choose F C MOST` writes
   fronts.py numbers < PLAN    the table that `plan` answers to a plan text of version 2
-  fronts.py table BINARY [F]  the table of boosting plans of docs/CHOOSE.md for 1 to F faults (7),
+  fronts.py table BINARY [F]  the table of boosting plans of docs/BOOSTING.md for 1 to F faults (7),
                               from what the built `choose boosting` writes at modulus 10
   fronts.py halving BINARY     the table of both constructions there, from what the built `choose`
                               writes at modulus 10

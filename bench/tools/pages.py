@@ -10,7 +10,8 @@ the repository's files in which the built programs lie at their places (crates/N
 `rt ci` and `rt run` leave them). If a block without a language comes next, with nothing between or
 with a few lines that begin with "prints" or "writes", it is what the commands have to print, to the
 letter. Else they have to end with 0. Pictures and other files of the repository that commands write
-have to be what is there.
+have to be what is there, and so have pictures that they write into mine/ by the name of one of
+docs/pictures/. In a clone git ignores that folder.
 
 Lines that prove or build by `rt`, and blocks that name what this machine lacks, are left out, and
 told: a program that is not built, or a path of the reader's own. The status is 1 if a block ends or
@@ -40,8 +41,9 @@ SAYS_OUTPUT = re.compile(r"((it|which|this|and) )?(prints|writes)\b")
 NOT_RUN = [".ci/run", "NAME", "FOLDER", "examples/udp/run.py", "bench/library/try.py", "hostile.py"]
 # what takes more than a second or two, or hangs on more than the programs and a shell
 NOT_QUICK = ["gcc", "rt doc", "mkfifo", "deployed_nodes.py", "drawn_runs.py", "vectors.py", "time ",
-             "python3 ticks.py", "out/try_"]
+             "parent.py", "out/try_"]
 NOT_READ = (".rt", ".antt", ".edit")  # what no command of a page reads: the sources
+PICTURES = pathlib.Path("docs/pictures")
 ARCHIVE = "crates/counterlab_c/out/libcounterlab_c.a"
 BUILDS = re.compile(r"\brt (run|lib|ci|try|check|must-fail)\b")
 BUILT = re.compile(r"\bout/(\w+)\b")
@@ -146,9 +148,11 @@ def copy(room):
 
 
 def changed_files(room):
-    """The files of the repository that are others now in the copy."""
+    """The files of the repository that are others now in the copy, and pictures that commands wrote
+    into the folder mine/ and that are others in docs/pictures/."""
     for file in sorted(room.glob("**/*")):
-        own = TOP / file.relative_to(room)
+        name = file.relative_to(room)
+        own = TOP / (PICTURES / file.name if name.parts[0] == "mine" else name)
         if file.is_file() and own.is_file() and file.read_bytes() != own.read_bytes():
             yield file.relative_to(room)
 
@@ -210,7 +214,8 @@ def look(page, room, at, quick):
     for changed in changed_files(room) if cases else []:
         print(f"pages: {name}: {changed} is written otherwise than it is there")
         failed += 1
-        shutil.copyfile(TOP / changed, room / changed)
+        if (TOP / changed).is_file():
+            shutil.copyfile(TOP / changed, room / changed)
     return tried, compared, failed
 
 

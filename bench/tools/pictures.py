@@ -5,7 +5,7 @@
     python3 bench/tools/pictures.py layers > docs/pictures/layers.svg       what stands on what, and how it is known
     python3 bench/tools/pictures.py bounds > docs/pictures/bounds.svg       nodes against T, for each F
 
-The last one has the plans of the tables of docs/CHOOSE.md, which are those that `choose` writes:
+The last one has the plans of the tables of docs/CHOOSE.md and docs/BOOSTING.md, which `choose` writes:
 of halving the one for each F, of boosting the front for each F up to 7.
 """
 
@@ -16,7 +16,8 @@ import sys
 
 from halves import head, text
 
-PAGE = pathlib.Path(__file__).resolve().parent.parent.parent / "docs" / "CHOOSE.md"
+DOCS = pathlib.Path(__file__).resolve().parent.parent.parent / "docs"
+PAGES = (DOCS / "CHOOSE.md").read_text() + (DOCS / "BOOSTING.md").read_text()
 MIDDLE = 'text-anchor="middle"'
 END = 'text-anchor="end"'
 SETTLES, COUNTS, LINE = "#f6d9c6", "#cfe8cf", "#333"
@@ -100,8 +101,8 @@ COLOURS = ["#1f77b4", "#ff7f0e", "#2ca02c", "#d62728", "#9467bd", "#8c564b", "#e
 
 
 def rows(of):
-    """Faults, nodes and bound of each row of the page's tables whose plan begins so."""
-    found = re.findall(rf"^\| (\d+) \| `{of} [^|]*\| (\d+) \| ([\d,]+) \|", PAGE.read_text(), re.M)
+    """Faults, nodes and bound of each row of the pages' tables whose plan begins so."""
+    found = re.findall(rf"^\| (\d+) \| `{of} [^|]*\| (\d+) \| ([\d,]+) \|", PAGES, re.M)
     return [(int(f), int(n), int(t.replace(",", ""))) for f, n, t in found]
 
 

@@ -1,27 +1,35 @@
 #!/usr/bin/env python3
-"""Runs nodes over UDP on 127.0.0.1, and says after how many rounds they count.
+"""Runs nodes over UDP on 127.0.0.1, and says after how many rounds they count and are sure.
 
     python3 examples/udp/run.py [STORY [MS [PLAN [CERTIFICATE]]]]
 
-A round takes MS milliseconds, or 20. PLAN is a plan's file, or that of thirteen nodes beside this
-script; that of twelve there is of the boosting construction. Each node is a process of node.c,
-which is built here with the library of a package (lib/), or its archive in the repository
-(crates/counterlab_c/out/, by `rt lib`) and the kit's; this script gives them their ticks. As many
-of them lie as the plan tolerates. The stories:
+A round takes MS milliseconds, or 100. PLAN is a plan's file, or one beside this script; that of
+twelve nodes there is of the boosting construction. Each node is a process of node.c, which is built
+here with the library of a package (lib/), or its archive in the repository
+(crates/counterlab_c/out/, by `rt lib`) and the kit's, or the archives that COUNTERLAB_ARCHIVES
+names; this script gives them their ticks. The stories:
 
-    all      all start; a liar is repaired; one is killed, and begins again from nothing; a third of
-             what is sent is lost for two seconds; the tick of one is half a round late for a second
+    all      thirteen start, of which as many lie as the plan tolerates; a liar is repaired; one is
+             killed, and begins again from nothing; a third of what is sent is lost for two seconds;
+             the tick of one is half a round late for a second
     links    while all liars lie, then all but one, then all but two, few datagrams are lost for ten
              seconds; then the first liar floods for five
+    field    four nodes, none of which lies: one is stopped for a second; its clock is; it is
+             killed, and starts again from its last state; it is started twice; a stranger sends to
+             its port, and tries to take it; two lie, one more than the plan tolerates; two have
+             another plan
     told     four nodes start, and what they did for some seconds is written as a run certificate,
              which bench/c/check.c and the program have to find true, if they are there
 
 Each event comes T rounds after the last, and some. Of each a line says from which round after it on
 all correct nodes show one number that grows by one, and how many rounds later than that did not
-count. A round is *clean* if each correct node has heard the true state of each other one. The
-last line is `as promised` if all counted in each round that had T clean ones before it: the
-machine may be late, and rounds unclean, but none of these may fail. The longest stretch of clean
-rounds of a boosting plan is written to CERTIFICATE, for `counterlab check`.
+count; and one from when on all are sure. A round is *clean* if each correct node has heard the true
+state of each other one. The last line is `as promised` if all counted in each round that had T
+clean ones before it, and all were sure where 2 T were clean; if no two were sure of different
+numbers; and none was sure within T rounds of a disturbance that it can see, nor while a premise
+failed: docs/DEPLOY.md has what each node does. The machine may be late, and rounds unclean, but
+none of these may fail. The longest stretch of clean rounds of a boosting plan is written to
+CERTIFICATE, for `counterlab check`.
 
 The status is 1 if something is not as promised, or a certificate is not true. A tool that is
 missing is named in a line, and is no failure. If it may, it runs in real time, before all other
@@ -29,178 +37,25 @@ processes. Nothing here is proved but the step of the library. It kills only pro
 started, and ends by itself.
 """
 
-import functools
 import os
 import pathlib
-import shutil
+import signal
 import subprocess
 import sys
 import tempfile
 import time
 
-HERE = pathlib.Path(__file__).resolve().parent
-TOP = HERE.parent.parent
-PACKED = TOP / "lib" / "libcounterlab.a"
-ARCHIVE = TOP / "crates" / "counterlab_c" / "out" / "libcounterlab_c.a"
+from nodes import HERE, PACKED, TOP, Nodes, Plan, Skipped, build, output
+from record import Record
+import ticks
+
 CHECKER = TOP / "bench" / "c" / "check.c"
 PROGRAM = TOP / ("bin" if PACKED.is_file() else "crates/counterlab/out") / "counterlab"
-FOUR_NODES = "plan 2\nbase 576\nlevel 3 1 10 spare 1\nend\n"
-TOLD_ROUNDS = 300
+BOOSTING_FOUR = "plan 2\nbase 576\nlevel 3 1 10 spare 1\nend\n"
+OTHER_PLAN = "halving 1\ngroup 4 1 12\nend\n"
+MILLISECONDS = 100
+TOLD_ROUNDS = 60
 MARGIN = 100  # rounds that are watched, beyond T
-SPELL = 20  # so many rounds that count in a row are no chance
-PORT = 10000 + os.getpid() % 80 * 256  # of node 0; two runs at a time seldom have the same
-
-
-class Skipped(Exception):
-    """Something cannot be done here."""
-
-
-# ---- what is built
-
-
-def output(command, **how):
-    """What a command prints, which has to end with 0."""
-    try:
-        ran = subprocess.run([str(it) for it in command], stdout=subprocess.PIPE, **how)
-    except OSError as error:
-        raise Skipped(f"{command[0]} cannot be run: {error.strerror}") from None
-    if ran.returncode:
-        raise Skipped(f"{command[0]} ended with {ran.returncode}")
-    return ran.stdout.decode()
-
-
-def needs(tool):
-    if not shutil.which(tool):
-        raise Skipped(f"there is no {tool} here")
-
-
-def library():
-    """The folder of the header, and the archives, of which that of a package has the kit's."""
-    if PACKED.is_file():
-        return TOP / "include", [PACKED]
-    needs("rt")
-    if not ARCHIVE.is_file():
-        raise Skipped(f"{ARCHIVE} is not there: it is built by `rt lib`")
-    kit = pathlib.Path(output(["rt", "doc"]).strip()).parent
-    return TOP / "bindings", [ARCHIVE, kit / "c" / "liblibc_c.a"]
-
-
-def build(room):
-    """The node and what may befall it."""
-    needs("gcc")
-    header, archives = library()
-    options = ["gcc", "-std=c11", "-O2"]
-    output([*options, "-I", header, "-o", room / "node", HERE / "node.c", *archives])
-    output([*options, "-shared", "-fPIC", "-o", room / "faults.so", HERE / "faults.c"])
-
-
-# ---- nodes
-
-
-class Plan:
-    """The lines of a plan, and its numbers."""
-
-    def __init__(self, path, room):
-        self.path, self.room = path, room
-        self.lines = pathlib.Path(path).read_text().splitlines()
-        numbers = [int(it) for it in output([room / "node", path]).split()[1::2]]
-        self.nodes, self.faults, self.modulus, self.bound = numbers
-
-
-class Process:
-    """A process of a node, and the first tick that it was given."""
-
-    def __init__(self, plan, v, length, log):
-        self.log, self.first = log, None
-        faults = plan.room / f"faults.{v}"
-        more = {"LD_PRELOAD": str(plan.room / "faults.so"), "UDP_FAULTS": str(faults)}
-        words = [plan.room / "node", "-p", plan.path, v, PORT, round(400 * length)]
-        with open(log, "wb") as to:
-            self.ran = subprocess.Popen([str(it) for it in words], stdin=subprocess.PIPE, stdout=to,
-                                        env={**os.environ, **more})
-        os.set_blocking(self.ran.stdin.fileno(), False)
-
-    def tick(self, k):
-        if self.first is None:
-            self.first = k
-        try:
-            os.write(self.ran.stdin.fileno(), b"\n")
-        except (BlockingIOError, BrokenPipeError):
-            pass  # it is stopped, or gone
-
-    def kill(self):
-        self.ran.kill()
-        self.ran.wait()
-        self.ran.stdin.close()
-
-
-class Row:
-    """What a node printed with a tick."""
-
-    def __init__(self, words):
-        self.ticks, self.number, self.sure, self.heard = map(int, words[:4])
-        self.state, self.cells = words[4], words[5:]
-
-
-class Nodes:
-    """All nodes of a plan, which get a tick in every `length` seconds."""
-
-    def __init__(self, plan, length):
-        self.plan, self.length = plan, length
-        self.running, self.ended = {}, []
-        self.delay = {v: 0.0 for v in range(plan.nodes)}
-        self.lost = 0.0  # of correct nodes, of what is sent
-        # how many lies each liar sends in the place of a message; the first ids are those that lead
-        self.lying = {v: 1 for v in range(plan.faults)}
-        for v in range(plan.nodes):
-            self.tell_faults(v)
-
-    def correct(self):
-        return [v for v in range(self.plan.nodes) if v not in self.lying]
-
-    def tell_faults(self, v):
-        faults = self.plan.room / f"faults.{v}"
-        lies = self.lying.get(v, 0)
-        lost = 0 if lies else round(65536 * self.lost)
-        with open(faults, "r+b" if faults.exists() else "w+b") as file:
-            file.write(bytes([lost >> 8, lost & 255, lies]))
-
-    def start(self, v):
-        log = self.plan.room / f"log.{v}.{len(self.ended)}"
-        self.running[v] = Process(self.plan, v, self.length, log)
-
-    def kill(self, v):
-        process = self.running.pop(v)
-        process.kill()
-        self.ended.append((v, process))
-
-    def repair(self, v):
-        del self.lying[v]
-        self.tell_faults(v)
-
-    def lie(self, v, lies):
-        self.lying[v] = lies
-        self.tell_faults(v)
-
-    def lose(self, share):
-        self.lost = share
-        for v in range(self.plan.nodes):
-            self.tell_faults(v)
-
-    def rows(self):
-        """For each node, what it printed, by the number of the tick."""
-        rows = {v: {} for v in range(self.plan.nodes)}
-        for v, process in [*self.ended, *self.running.items()]:
-            if process.first is None:
-                continue
-            k = process.first - 1
-            for line in process.log.read_text().splitlines():
-                words = line.split()
-                if len(words) == 5 + self.plan.nodes:  # else cut by a kill
-                    row = Row(words)
-                    k += row.ticks
-                    rows[v][k] = row
-        return rows
 
 
 # ---- what befalls them
@@ -208,26 +63,31 @@ class Nodes:
 
 class Event:
     """From tick `begin` to `end` something is wrong with all but the nodes `alone`; from `end` on
-    `correct` are to count."""
+    `correct` are to count. The nodes `disturbed` know of it, and are not sure for T rounds after
+    it; the nodes `failing` are not sure meanwhile."""
 
     def __init__(self, name, begin, lasts, alone, correct):
         self.name, self.begin, self.end = name, begin, begin + lasts
         self.alone, self.correct = alone, correct
+        self.disturbed, self.failing = [], []
 
 
 class Story:
     """Events one after the other, with calls before some ticks."""
 
-    def __init__(self, nodes):
+    def __init__(self, nodes, margin=MARGIN):
         self.nodes, self.events, self.calls, self.now = nodes, [], {}, 0
+        self.watched = nodes.plan.bound + margin  # rounds after each
 
-    def event(self, name, seconds, alone, correct, *calls):
+    def event(self, name, seconds, alone, correct, *calls, disturbed=(), failing=()):
         """What is called as it begins, and what as it ends."""
         lasts = round(seconds / self.nodes.length)
-        self.events.append(Event(name, self.now, lasts, alone, correct))
+        event = Event(name, self.now, lasts, alone, correct)
+        event.disturbed, event.failing = list(disturbed), list(failing)
+        self.events.append(event)
         for at, call in zip([self.now, self.now + lasts], calls):
             self.calls.setdefault(at, []).append(call)
-        self.now += lasts + self.nodes.plan.bound + MARGIN
+        self.now += lasts + self.watched
 
     def play(self):
         nodes, length = self.nodes, self.nodes.length
@@ -244,19 +104,20 @@ class Story:
                 call()
             for delay, v in sorted((nodes.delay[v], v) for v in nodes.running):
                 sleep_until(begin + delay)
-                nodes.running[v].tick(k)
+                nodes.running[v].tick(k, v in nodes.held)
         time.sleep(length)
 
 
-def started(nodes):
+def started(nodes, margin=MARGIN):
     """A story in which all nodes start, in random states."""
-    story = Story(nodes)
+    story = Story(nodes, margin)
 
     def start_all():
         for v in range(nodes.plan.nodes):
             nodes.start(v)
 
-    story.event("started in random states", 0, [], nodes.correct(), start_all)
+    story.event("started in random states", 0, [], nodes.correct(), start_all,
+                disturbed=nodes.correct())
     return story
 
 
@@ -277,7 +138,7 @@ def story_of_all(nodes):
     v = correct[-2]
     others = [u for u in correct if u != v]
     story.event(f"{v} killed, and after a second from nothing", 1, others, correct,
-                lambda: nodes.kill(v), lambda: nodes.start(v))
+                lambda: nodes.kill(v), lambda: nodes.start(v), disturbed=[v])
     story.event("a third of all that is sent lost for two seconds", 2, correct, correct,
                 lambda: nodes.lose(1 / 3), lambda: nodes.lose(0))
     story.event(f"the tick of {v} half a round late for a second", 1, others, correct,
@@ -303,117 +164,45 @@ def story_of_links(nodes):
     return story
 
 
+def story_of_field(nodes):
+    story = started(nodes, 3 * nodes.plan.bound)
+    everyone, last = nodes.correct(), nodes.plan.nodes - 1
+    others, two = everyone[:-1], everyone[-nodes.plan.faults - 1 :]
+    rest = [v for v in everyone if v not in two]
+    story.event(f"{last} stopped for a second", 1, others, everyone,
+                lambda: nodes.stop(last), lambda: nodes.go_on(last), disturbed=[last])
+    story.event(f"the clock of {last} stopped for a second", 1, others, everyone,
+                lambda: nodes.held.add(last), lambda: nodes.held.discard(last), disturbed=[last])
+    story.event(f"{last} killed, and after a second from its last state", 1, others, everyone,
+                lambda: nodes.kill(last), lambda: nodes.start(last), disturbed=[last])
+    story.event(f"{last} started twice", 1, everyone, everyone, lambda: nodes.start_again(last))
+    story.event(f"a stranger sends to the port of {last}, and tries to take it", 1, everyone,
+                everyone, lambda: nodes.send_strange(last, 100),
+                lambda: nodes.taken.append(nodes.can_be_taken(last)))
+    both = " and ".join(map(str, two))
+    # shorter than T: a liar too many may agree with a node by chance, once the timer is at 0 again
+    story.event(f"{both} lie for 15 rounds, one more than is tolerated", 15 * nodes.length, rest,
+                everyone, lambda: [nodes.lie(v, 1) for v in two],
+                lambda: [nodes.repair(v) for v in two], failing=rest)
+    story.event(f"{both} on another plan for three seconds", 3, rest, everyone,
+                lambda: [restart(nodes, v, nodes.other_plan) for v in two],
+                lambda: [restart(nodes, v, nodes.plan) for v in two], disturbed=two, failing=rest)
+    return story
+
+
+def restart(nodes, v, plan):
+    nodes.kill(v)
+    nodes.start(v, plan)
+
+
 def story_of_told(nodes):
     story = started(nodes)
     story.now = TOLD_ROUNDS
     return story
 
 
-STORIES = {"all": story_of_all, "links": story_of_links, "told": story_of_told}
-
-
-# ---- what they did
-
-
-class Record:
-    """The rows of nodes, and what can be said of them."""
-
-    def __init__(self, nodes):
-        self.plan, self.rows = nodes.plan, nodes.rows()
-
-    def counts(self, correct, k):
-        """Whether these show one number after tick k, and it plus one after the next."""
-        old = {self.rows[v][k].number if k in self.rows[v] else None for v in correct}
-        new = {self.rows[v][k + 1].number if k + 1 in self.rows[v] else None for v in correct}
-        return len(old) == 1 and None not in old and new == {(min(old) + 1) % self.plan.modulus}
-
-    @functools.lru_cache(maxsize=None)
-    def is_clean(self, correct, k):
-        """Whether from tick k to the next each of these heard the true state of each other."""
-        for v in correct:
-            if k not in self.rows[v] or k + 1 not in self.rows[v]:
-                return False
-            if self.rows[v][k + 1].ticks != 1 or self.rows[v][k + 1].heard < 0:
-                return False
-        states = {v: self.rows[v][k].state for v in correct}
-        cells = {v: self.rows[v][k + 1].cells for v in correct}
-        return all(cells[v][u] == states[u] for v in correct for u in correct if u != v)
-
-    def since(self, correct, begin, end):
-        """From which tick on they count for a spell, or to the end."""
-        run = 0
-        for k in range(begin, end):
-            run = run + 1 if self.counts(correct, k) else 0
-            if run == SPELL:
-                return k + 1 - SPELL
-        return end - run if run else None
-
-    def told(self, event, until):
-        """What is said of an event, and how many rounds after it are against the promise."""
-        correct, begin, end = event.correct, event.end, until - 1
-        lines = [f"{event.name}:"]
-        if event.begin < begin:
-            failed = sum(not self.counts(event.alone, k) for k in range(event.begin, begin))
-            lines.append(f"meanwhile {failed} of {begin - event.begin} rounds do not count, of "
-                         f"{len(event.alone)} nodes")
-        clean = [self.is_clean(tuple(correct), k) for k in range(begin, end)]
-        since = self.since(correct, begin, end)
-        if since is None:
-            lines.append(f"they do not count within {end - begin} rounds")
-        else:
-            failed = sum(not self.counts(correct, k) for k in range(since, end))
-            lines.append(f"all {len(correct)} count from round {since - begin} on, of T "
-                         f"{self.plan.bound}; then {failed} of {end - since} do not count")
-        lines.append(f"{clean.count(False)} of {end - begin} rounds are not clean")
-        return "\n    ".join(lines), self.broken(correct, clean, begin)
-
-    def broken(self, correct, clean, begin):
-        """How many clean rounds with T clean ones before them do not count."""
-        found, good = 0, 0
-        for k, it in enumerate(clean, begin):
-            good = good + 1 if it else 0
-            found += good > self.plan.bound and not self.counts(correct, k)
-        return found
-
-    def longest(self, correct):
-        """The first and the last tick of the longest stretch of clean rounds."""
-        best, begin = (0, 0), None
-        if not all(self.rows.values()):
-            raise Skipped("there is a node that wrote nothing")
-        ticks = sorted(self.rows[correct[0]])
-        for k in range(ticks[0], ticks[-1] + 1):
-            if not self.is_clean(tuple(correct), k):
-                begin = None
-                continue
-            begin = k if begin is None else begin
-            best = max(best, (k + 1 - begin, -begin))
-        return -best[1], best[0] - best[1]
-
-    def certificate(self, correct):
-        """What these did in the longest stretch of clean rounds, and its number of rows."""
-        first, last = self.longest(correct)
-        version = "run 3" if "plan 2" in self.plan.lines else "run 1"
-        faulty = [u for u in range(self.plan.nodes) if u not in correct]
-        lines = [version, *(it for it in self.plan.lines if it.startswith(("base ", "level ")))]
-        lines.append(" ".join(["faulty", *map(str, faulty)]))
-        lines += [f"start {v} {self.rows[v][first].state}" for v in correct]
-        lengths = {u: self.length_of(u) for u in faulty}
-        for k in range(first, last + 1):
-            if k > first:
-                for u in faulty:
-                    for v in correct:
-                        cell = self.rows[v][k].cells[u]
-                        # of another length, or none: it was heard as the zero state
-                        cell = cell if len(cell) == lengths[u] else "0" * lengths[u]
-                        lines.append(f"lie {u} {v} {cell}")
-            shown = [str(self.rows[v][k].number) if v in correct else "*"
-                     for v in range(self.plan.nodes)]
-            lines.append(" ".join([f"row {k - first}", *shown]))
-        return "\n".join([*lines, "end\n"]), last + 1 - first
-
-    def length_of(self, u):
-        """How many hex digits a state of node u has, a liar among them: each prints its own."""
-        return len(next(iter(self.rows[u].values())).state)
+STORIES = {"all": story_of_all, "links": story_of_links, "field": story_of_field,
+           "told": story_of_told}
 
 
 # ---- what is said of it
@@ -428,6 +217,38 @@ def report(story, record):
         broken += wrong
     print("as promised" if broken == 0 else f"NOT AS PROMISED: {broken} rounds")
     return broken == 0
+
+
+def field_holds(nodes, record):
+    """Whether in the field each node saw what it has to; says what it did."""
+    last = nodes.plan.nodes - 1
+    rows = [row for of_node in record.rows.values() for row in of_node.values()]
+    seen = {
+        f"{last} started twice: the second one ended with 3":
+            [it.poll() for it in nodes.again] == [3],
+        "the stranger did not get the port": nodes.taken == [False],
+        f"{last} dropped the stranger's datagrams":
+            sum(row.strange for row in record.rows[last].values()) > 0,
+        "nodes told of others on another plan": any(row.other > 0 for row in rows),
+        "ticks.py writes the ticks that it missed": ticks_are_made_up(),
+    }
+    for what, is_so in seen.items():
+        print(what if is_so else f"NOT SO: {what}")
+    return all(seen.values())
+
+
+def ticks_are_made_up():
+    """Whether ticks.py, stopped for half a second, writes all ticks of that time; and two if the
+    clock went back, which no test can make it do."""
+    with subprocess.Popen([sys.executable, HERE / "ticks.py", "20"], stdout=subprocess.PIPE) as ran:
+        ran.stdout.read(1)
+        ran.send_signal(signal.SIGSTOP)
+        time.sleep(0.5)
+        ran.send_signal(signal.SIGCONT)
+        time.sleep(0.2)
+        ran.terminate()
+        written = len(ran.stdout.read())
+    return written >= 25 and ticks.ticks_between(10, 7) == 2
 
 
 def is_true(text, rows, room):
@@ -461,8 +282,11 @@ def play(name, milliseconds, path, certificate, room):
     plan = Plan(path, room)
     if certificate and not any(it.startswith("base ") for it in plan.lines):
         raise Skipped("there is a certificate of a boosting plan alone")
-    nodes = Nodes(plan, milliseconds / 1000)
-    correct, liars = nodes.correct(), " ".join(map(str, nodes.lying))
+    nodes = Nodes(plan, milliseconds / 1000, 0 if name == "field" else plan.faults, name == "field")
+    if name == "field":
+        (room / "other_plan.txt").write_text(OTHER_PLAN)
+        nodes.other_plan = Plan(room / "other_plan.txt", room)
+    correct, liars = nodes.correct(), " ".join(map(str, nodes.lying)) or "none"
     story = STORIES[name](nodes)
     priority = real_time()
     if name != "told":
@@ -476,6 +300,8 @@ def play(name, milliseconds, path, certificate, room):
             nodes.kill(v)
     record = Record(nodes)
     right = name == "told" or report(story, record)
+    if name == "field":
+        right &= field_holds(nodes, record)
     if name == "told" or certificate:
         text, rows = record.certificate(correct)
         if certificate:
@@ -485,18 +311,25 @@ def play(name, milliseconds, path, certificate, room):
     return right
 
 
+def own_plan(name, room):
+    """The plan of a story if no word names one."""
+    if name == "told":
+        (room / "four_nodes.txt").write_text(BOOSTING_FOUR)
+        return room / "four_nodes.txt"
+    return HERE / ("four_nodes.txt" if name == "field" else "thirteen_nodes.txt")
+
+
 def main():
     words = sys.argv[1:]
     name = words[0] if words else "all"
-    if name not in STORIES or len(words) > 4 or len(words) > 1 and not words[1].isdecimal():
+    if name not in STORIES or len(words) > 4 or len(words) > 1 and not words[1].isdecimal() \
+            or name == "field" and len(words) > 2:
         sys.exit(__doc__)
-    milliseconds = int(words[1]) if len(words) > 1 else 20
+    milliseconds = int(words[1]) if len(words) > 1 else MILLISECONDS
     certificate = words[3] if len(words) > 3 else None
     with tempfile.TemporaryDirectory(prefix="counterlab-udp-") as at:
         room = pathlib.Path(at)
-        (room / "four_nodes.txt").write_text(FOUR_NODES)
-        own = room / "four_nodes.txt" if name == "told" else HERE / "thirteen_nodes.txt"
-        path = os.path.abspath(words[2]) if len(words) > 2 else own
+        path = os.path.abspath(words[2]) if len(words) > 2 else own_plan(name, room)
         try:
             build(room)
             right = play(name, milliseconds, path, certificate, room)

@@ -1,8 +1,8 @@
 ghost use Rattle.std.specs.Prelude.{◌≡◌};
 ghost use Rattle.plan_numbers.specs.Numbers.{line};
 ghost use Rattle.plan_numbers.specs.Premises.{first_premise, unless};
-ghost use Rattle.plan_laws.specs.Boosted.{boosted, BoostedRange, StandsOn};
-ghost use Rattle.plan_laws.proofs.BoostLaws.{boosted_sizes, boosted_stays_in_range};
+ghost use Rattle.plan_laws.specs.Boosted.{boosted, boosted_low, BoostedRange, StandsOn};
+ghost use Rattle.plan_laws.proofs.BoostLaws.{boosted_sizes, boosted_lows, boosted_stays_in_range};
 ghost use Rattle.plan_laws.proofs.BoostLaws.{boosted_zero_in_range};
 ghost use Rattle.plan_laws.proofs.FurtherRegisters.{boosted_ignores_further};
 ghost use Rattle.plan_laws.proofs.BoostSettles.{boosted_settles};
@@ -62,6 +62,8 @@ impl<A: Counter> Counter for Boost<A> {
 
     ghost meaning = { λ b. boosted (A.meaning b.inner) b.level };
 
+    ghost lowest = { λ b. boosted_low (A.meaning b.inner) b.level (A.lowest b.inner) };
+
     ghost in_range = { λ b. BoostedRange (A.in_range b.inner) (A.meaning b.inner).depth
         b.level.modulus };
 
@@ -116,6 +118,9 @@ impl<A: Counter> Counter for Boost<A> {
 
     ghost sizes = { λ b v. boosted_sizes (A.meaning b.inner) (A.in_range b.inner) b.level
         (A.sizes b.inner v.0) v.1 };
+
+    ghost lows_are_within = { λ b v. boosted_lows (A.meaning b.inner) (A.in_range b.inner) b.level
+        (A.sizes b.inner v.0) (A.lowest b.inner) (A.lows_are_within b.inner v.0) };
 
     ghost stays_in_range = { λ b v. boosted_stays_in_range (A.meaning b.inner) (A.in_range b.inner)
         b.level (A.sizes b.inner v.0) v.1.least_modulus (A.stays_in_range b.inner v.0)

@@ -8,7 +8,7 @@ use Rattle.layer_laws.specs.Numbers.{numbers_in}
 use Rattle.layer_laws.specs.CounterLayers.{scene}
 use Rattle.layer_laws.specs.Scenes.{kept_of}
 use Rattle.layer_laws.specs.CounterSlots.{slot_length, AllAre}
-use Rattle.layer_laws.proofs.PlanCounters.{borne_by_counter, plans_settle}
+use Rattle.layer_laws.proofs.PlanCounters.{plans_settle}
 use Rattle.consensus_layer.specs.Agreeing.{IsAgreeing}
 use Rattle.consensus_layer.specs.ChangingInputs.{Noted, changing_layer_over}
 use Rattle.consensus_layer.specs.ChangingInputs.{ChangingInputsDecide, ChangingInputsDecideOver}
@@ -45,4 +45,4 @@ changing_inputs_decide_over counter is_state settling whole values input faulty 
 pub changing_inputs_decide : ChangingInputsDecide
 changing_inputs_decide plan accepted whole values input faulty borne =
     changing_inputs_decide_over (plan_meaning plan) (IsState plan) (plans_settle plan accepted)
-    whole values input faulty (borne_by_counter plan faulty borne)
+    whole values input faulty borne

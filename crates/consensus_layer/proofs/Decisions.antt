@@ -8,7 +8,7 @@ use Rattle.layer_laws.specs.Numbers.{numbers_in}
 use Rattle.std.specs.Prelude.{slice_index}
 use Rattle.layer_laws.specs.CounterLayers.{scene}
 use Rattle.layer_laws.specs.CounterSlots.{slot_length, AllAre}
-use Rattle.layer_laws.proofs.PlanCounters.{borne_by_counter, plans_settle}
+use Rattle.layer_laws.proofs.PlanCounters.{plans_settle}
 use Rattle.consensus_layer.specs.Agreeing.{IsAgreeing}
 use Rattle.consensus_layer.specs.Agreements.{agree_layer_over, decision, EveryRunDecides}
 use Rattle.consensus_layer.specs.Agreements.{EveryRunDecidesOver}
@@ -44,4 +44,4 @@ every_run_decides_over counter is_state settling whole values inputs faulty born
 pub every_run_decides : EveryRunDecides
 every_run_decides plan accepted whole values inputs faulty borne =
     every_run_decides_over (plan_meaning plan) (IsState plan) (plans_settle plan accepted) whole
-    values inputs faulty (borne_by_counter plan faulty borne)
+    values inputs faulty borne

@@ -12,10 +12,9 @@ use Rattle.construction.specs.Plans.{plan_depth, plan_low, nodes_of}
 use Rattle.construction.specs.Shown.{shown}
 use Rattle.construction.specs.PhaseKing.{locked_at}
 use Rattle.construction.specs.Steps.{state_of, step_of}
-
--- configuration t of a run
-abbrev pub configuration : List (List State) → ℕ → List State
-configuration run t = slice_index_or run t []
+use Rattle.construction.specs.Machines as any
+use Rattle.construction.specs.Machines.{Machine}
+pub use Rattle.construction.specs.Machines.{configuration, heard_of, heard_by}
 
 -- the number of a node: below the base if the node has it, else 0
 abbrev pub IsNumber : (has : Bool) (base x : ℕ) → Type 0
@@ -41,83 +40,54 @@ pub record IsState (plan : Plan) (v : ℕ) (state : State) : Type 0 where
   pub x : IsNumber (nat_le (plan_low plan v) 0) plan.base state.x
   pub registers : HasRegisters (plan_low plan v) plan.levels state
 
--- a state for each node
-pub record IsConfiguration (plan : Plan) (config : List State) : Type 0 where
-  pub size : length config ≡ plan_nodes plan
-  pub states : (v : ℕ) → v < plan_nodes plan → IsState plan v (state_of config v)
+-- the machine of a plan
+abbrev pub machine_of : Plan → Machine
+machine_of plan = record {
+  nodes = plan_nodes plan;
+  faults = plan_faults plan;
+  modulus = plan_modulus plan;
+  bound = plan_bound plan;
+  depth = plan_depth plan;
+  shows = λ v state. shown (plan_depth plan) state;
+  next = step_of plan;
+}
 
--- what node u says to each receiver: states of its own
-pub record IsTold (plan : Plan) (u : ℕ) (told : List State) : Type 0 where
-  pub size : length told ≡ plan_nodes plan
-  pub states : All (IsState plan u) told
+abbrev pub IsConfiguration : (plan : Plan) (config : List State) → Type 0
+IsConfiguration plan config = any.IsConfiguration (machine_of plan) (IsState plan) config
 
--- for each sender, what it says to each receiver
-pub record IsTable (plan : Plan) (lies : List (List State)) : Type 0 where
-  pub size : length lies ≡ plan_nodes plan
-  pub rows : (u : ℕ) → u < plan_nodes plan → IsTold plan u (slice_index_or lies u [])
+abbrev pub IsTold : (plan : Plan) (u : ℕ) (told : List State) → Type 0
+IsTold plan u told = any.IsTold (machine_of plan) (IsState plan) u told
 
--- what v hears of u: the true state of itself and of a correct node, and of another faulty one what
--- it says to v
-abbrev pub heard_of : (faulty : List ℕ) (old : List State) (lies : List (List State)) (v u : ℕ)
-    → State
-heard_of faulty old lies v u =
-    if u == v || not (is_in faulty u) then state_of old u
-    else state_of (slice_index_or lies u []) v
+abbrev pub IsTable : (plan : Plan) (lies : List (List State)) → Type 0
+IsTable plan lies = any.IsTable (machine_of plan) (IsState plan) lies
 
--- what v hears of all nodes
-abbrev pub heard_by : (n : ℕ) (faulty : List ℕ) (old : List State) (lies : List (List State))
-    (v : ℕ) → List State
-heard_by n faulty old lies v = map (heard_of faulty old lies v) (range_with_len 0 n)
+abbrev pub Round : (plan : Plan) (faulty : List ℕ) (old : List State) (lies : List (List State))
+    (new : List State) → Type 0
+Round plan faulty old lies new = any.Round (machine_of plan) (IsState plan) faulty old lies new
 
--- A round: each correct node steps from what it hears. The states of faulty nodes are free.
-pub record Round (plan : Plan) (faulty : List ℕ) (old : List State) (lies : List (List State))
-    (new : List State) : Type 0 where
-  pub table : IsTable plan lies
-  pub steps : (v : ℕ) → v < plan_nodes plan → is_in faulty v ≡ false
-      → state_of new v ≡ step_of plan v (heard_by (plan_nodes plan) faulty old lies v)
+abbrev pub IsNext : (plan : Plan) (faulty : List ℕ) (old new : List State) → Type 0
+IsNext plan faulty old new = any.IsNext (machine_of plan) (IsState plan) faulty old new
 
--- the next configuration is that of a round with some table of lies
-pub record IsNext (plan : Plan) (faulty : List ℕ) (old new : List State) : Type 0 where
-  pub lies : List (List State)
-  pub round : Round plan faulty old lies new
+abbrev pub Run : (plan : Plan) (faulty : List ℕ) (run : List (List State)) → Type 0
+Run plan faulty run = any.Run (machine_of plan) (IsState plan) faulty run
 
--- a run: at least one configuration, and a round between each two neighbours
-pub record Run (plan : Plan) (faulty : List ℕ) (run : List (List State)) : Type 0 where
-  pub some : 0 < length run
-  pub configurations : All (IsConfiguration plan) run
-  pub rounds : (t : ℕ) → t + 1 < length run
-      → IsNext plan faulty (configuration run t) (configuration run (t + 1))
-
--- all correct nodes show this number
 abbrev pub AllShow : (plan : Plan) (faulty : List ℕ) (config : List State) (output : ℕ) → Type 0
-AllShow plan faulty config output =
-    (v : ℕ) → v < plan_nodes plan → is_in faulty v ≡ false
-    → shown (plan_depth plan) (state_of config v) ≡ output
+AllShow plan faulty config output = any.AllShow (machine_of plan) faulty config output
 
--- from a configuration on all correct nodes show one number, which grows by one modulo C
-pub record CountsFrom (plan : Plan) (faulty : List ℕ) (run : List (List State))
-    (from : ℕ) : Type 0 where
-  pub output : ℕ → ℕ
-  pub shows : (t : ℕ) → from ≤ t → t < length run
-      → AllShow plan faulty (configuration run t) (output t)
-  pub grows : (t : ℕ) → from ≤ t → t + 1 < length run
-      → output (t + 1) ≡ (output t + 1) % plan_modulus plan
+abbrev pub CountsFrom : (plan : Plan) (faulty : List ℕ) (run : List (List State)) (from : ℕ)
+    → Type 0
+CountsFrom plan faulty run from = any.CountsFrom (machine_of plan) faulty run from
 
 -- they do so from the bound on
 abbrev pub Counts : (plan : Plan) (faulty : List ℕ) (run : List (List State)) → Type 0
 Counts plan faulty run = CountsFrom plan faulty run (plan_bound plan)
 
--- a faulty set that the plan tolerates: rising ids of nodes, at most F
-pub record IsToleratedBy (plan : Plan) (faulty : List ℕ) : Type 0 where
-  pub rising : IsStrictlyIncreasing faulty
-  pub ids : All (λ id. id < plan_nodes plan) faulty
-  pub few : length faulty ≤ plan_faults plan
+abbrev pub IsToleratedBy : (plan : Plan) (faulty : List ℕ) → Type 0
+IsToleratedBy plan faulty = any.IsToleratedBy (machine_of plan) faulty
 
 -- whatever the start and the lies, with each faulty set that the plan tolerates
 abbrev pub Settles : Plan → Type 0
-Settles plan =
-    (faulty : List ℕ) (run : List (List State)) → IsToleratedBy plan faulty → Run plan faulty run
-    → Counts plan faulty run
+Settles plan = any.Settles (machine_of plan) (IsState plan)
 
 -- the registers at a level of all correct nodes are one, finite and marked
 pub record AllLocked (level n : ℕ) (faulty : List ℕ) (config : List State) : Type 0 where

@@ -3,8 +3,7 @@ use Rattle.std.specs.Prelude.{◌≡◌, ℕ, ◌*◌, ◌^◌, ◌<◌, ◌≤�
 use Rattle.sync_types.specs.States.{State}
 use Rattle.counter_core.specs.Meanings.{Meaning, cut}
 
--- how large its numbers are, that no node begins above the top level, what states show, and how
--- many registers the step gives
+-- how large its numbers are, what states show, and how many registers the step gives
 pub record Sizes (m : Meaning) (in_range : State → Type 0) : Type 0 where
   pub some : 1 ≤ m.nodes
   pub most : m.nodes ≤ 256
@@ -13,10 +12,13 @@ pub record Sizes (m : Meaning) (in_range : State → Type 0) : Type 0 where
   pub modulus : m.modulus ≤ 2 ^ 40
   pub bound : m.bound < m.nodes * 2 ^ 40
   pub shallow : m.depth < m.nodes
-  pub low : (v : ℕ) → v < m.nodes → m.low v ≤ m.depth
   pub shown : (v : ℕ) (s : State) → v < m.nodes → in_range s → m.shows v s < m.modulus
   pub deep : (v : ℕ) (heard : List State) → v < m.nodes → length heard ≡ m.nodes
       → length (m.next v heard).registers ≡ m.depth
+
+-- the level from which on the node at a place takes part is at most the depth
+abbrev pub LowsAreWithin : (m : Meaning) (low : (v : ℕ) → ℕ) → Type 0
+LowsAreWithin m low = (v : ℕ) → v < m.nodes → low v ≤ m.depth
 
 -- the step leads from states in range to one in range
 abbrev pub StaysInRange : (m : Meaning) (in_range : State → Type 0) → Type 0

@@ -1,21 +1,12 @@
--- What a counter means, however it is held: its numbers, what its states show, and its step.
-use Rattle.std.specs.Prelude.{ℕ, List, ◌++◌, take, drop}
+-- What a counter means, however it is held: a machine.
+use Rattle.std.specs.Prelude.{ℕ, ◌++◌, take, drop}
 use Rattle.sync_types.specs.States.{State}
+use Rattle.construction.specs.Machines.{Machine}
 
--- So many nodes, of which so many may be faulty, count by the modulus from the bound on; a state
--- has as many registers as the depth. The node at a place takes part from level `low` on, and lacks
--- the fields of the levels below that.
--- A state shows an output at a place, and at a place a state follows from the states heard of all
--- nodes.
-pub record Meaning : Type 0 where
-  pub nodes : ℕ
-  pub faults : ℕ
-  pub modulus : ℕ
-  pub bound : ℕ
-  pub depth : ℕ
-  pub low : ℕ → ℕ
-  pub shows : ℕ → State → ℕ
-  pub next : ℕ → List State → State
+-- Its numbers, what a state shows at a place, and at a place the state that follows from those
+-- heard of all nodes. A state has as many registers as the depth, and further ones behind.
+abbrev pub Meaning : Type 0
+Meaning = Machine
 
 -- the state's number and first d registers
 abbrev pub cut : (d : ℕ) → State → State

@@ -12,7 +12,7 @@ use Rattle.construction.specs.Steps.{state_of}
 use Rattle.construction.specs.Runs.{is_in, configuration}
 use Rattle.counter_core.specs.Meanings.{cut}
 use Rattle.counter_core.specs.Runs.{Settles}
-use Rattle.counter_core.specs.Laws.{Sizes, StaysInRange, IgnoresFurther}
+use Rattle.counter_core.specs.Laws.{Sizes, LowsAreWithin, StaysInRange, IgnoresFurther}
 use Rattle.counter_core.specs.Trivial.{one_node, IsBelow}
 
 pub one_node_sizes : (c : ℕ) → 2 ≤ c → c ≤ 2 ^ 40 → Sizes (one_node c) (IsBelow c)
@@ -24,10 +24,12 @@ one_node_sizes c two most = record {
   modulus = most;
   bound = ltb-true 0 (1 * 2 ^ 40) refl;
   shallow = ltb-true 0 1 refl;
-  low = λ v lt. leb-true 0 0 refl;
   shown = λ v s lt range. range;
   deep = λ v heard lt size. refl;
 }
+
+pub one_node_lows : (c : ℕ) → LowsAreWithin (one_node c) (λ v. 0)
+one_node_lows c v lt = leb-true 0 0 refl
 
 pub one_node_stays : (c : ℕ) → 2 ≤ c → StaysInRange (one_node c) (IsBelow c)
 one_node_stays c two v heard lt size range = mod-lt ((state_of heard v).x + 1) (le_of_lt two)

@@ -1,8 +1,8 @@
-ghost use Rattle.std.specs.Prelude.{◌≡◌, ◌<◌, ◌≤◌, length, All};
+ghost use Rattle.std.specs.Prelude.{◌≡◌, ℕ, ◌<◌, ◌≤◌, length, All};
 ghost use Rattle.sync_types.specs.States.{State, zero_state};
 ghost use Rattle.counter_core.specs.Meanings.{Meaning, written};
 ghost use Rattle.counter_core.specs.Runs.{Settles};
-ghost use Rattle.counter_core.specs.Laws.{Sizes, StaysInRange, IgnoresFurther};
+ghost use Rattle.counter_core.specs.Laws.{Sizes, LowsAreWithin, StaysInRange, IgnoresFurther};
 ghost use Rattle.counter_core.specs.Working.{IsWorkFor, IsAsRoomy};
 
 use crate::heard::Heard;
@@ -17,6 +17,9 @@ pub trait Counter: Drop {
 
     // The counter's numbers, and its step.
     ghost meaning: { Self → Meaning };
+
+    // The lowest level in which the node at a place takes part.
+    ghost lowest: { Self → (v : ℕ) → ℕ };
 
     // Which states are in range.
     ghost in_range: { Self → State → Type 0 };
@@ -45,7 +48,7 @@ pub trait Counter: Drop {
     /// if it is none. It is at most the depth.
     fn low(&self, place: u32) -> usize
         requires { place < (meaning self.now).nodes }
-        ensures { result ≡ (meaning self.now).low place };
+        ensures { result ≡ lowest self.now place };
 
     /// Does nothing but tell that this is a counter, which then has the laws below.
     fn tell(&self)
@@ -73,6 +76,8 @@ pub trait Counter: Drop {
             ≡ written (meaning self.now).depth ((meaning self.now).next place heard.now) out.old };
 
     ghost sizes: { (c : Self) → valid c → Sizes (meaning c) (in_range c) };
+
+    ghost lows_are_within: { (c : Self) → valid c → LowsAreWithin (meaning c) (lowest c) };
 
     ghost stays_in_range: { (c : Self) → valid c → StaysInRange (meaning c) (in_range c) };
 

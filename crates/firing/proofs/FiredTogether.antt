@@ -17,7 +17,7 @@ use Rattle.layer_laws.specs.CounterSlots.{slot_length, agreed_in_turn, AllAre}
 use Rattle.layer_laws.proofs.Settling.{few_of}
 use Rattle.layer_laws.proofs.CounterSteps.{node_steps, shows_rest, common_rest}
 use Rattle.layer_laws.proofs.CounterSlots.{counts_of}
-use Rattle.layer_laws.proofs.PlanCounters.{borne_by_counter, plans_settle}
+use Rattle.layer_laws.proofs.PlanCounters.{plans_settle}
 use Rattle.consensus_layer.specs.Agreeing.{turned, agree_step, IsAgreeing}
 use Rattle.consensus_layer.proofs.Loaded.{slot_decides_over}
 use Rattle.firing.specs.declared.requests.Request.{Request}
@@ -94,4 +94,4 @@ fires_together_over counter is_state settling whole requests faulty borne first 
 pub fires_together : EveryRunFiresTogether
 fires_together plan accepted whole requests faulty borne =
     fires_together_over (plan_meaning plan) (IsState plan) (plans_settle plan accepted) whole
-    requests faulty (borne_by_counter plan faulty borne)
+    requests faulty borne

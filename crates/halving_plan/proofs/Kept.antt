@@ -4,10 +4,9 @@ use Rattle.std.proofs.Common.{ap, ap₂, ◌∙◌, arith}
 use Rattle.std.proofs.lemmas.List.Elements.{All-from_get_or}
 use Rattle.std.proofs.lemmas.List.FromFn.{length-map-range_with_len, get_or-map-range_with_len}
 use Rattle.sync_types.specs.States.{State, zero_state}
-use Rattle.construction.specs.Steps.{state_of}
 use Rattle.state_codec.specs.Shapes.{Fields}
 use Rattle.state_codec.specs.Ranges.{InRange}
-use Rattle.machines.specs.Machines.{IsConfiguration}
+use Rattle.machines.specs.Machines.{AreFronts}
 use Rattle.halving_plan.specs.Trees.{tree_nodes, tree_for}
 use Rattle.halving_plan.specs.Steps.{tree_depth}
 use Rattle.halving_plan.specs.Runs.{fields_in, all_fields, lock_of}
@@ -56,13 +55,12 @@ module _ (plan : HalvingNumbers) (accepted : IsAccepted plan) (v : ℕ)
 
 -- what may be heard
 pub can_hear : (plan : HalvingNumbers) → IsAccepted plan → (heard : List State)
-    → IsConfiguration (machine_in plan) heard → CanHear plan heard
+    → AreFronts (machine_in plan) heard → CanHear plan heard
 can_hear plan accepted heard is = record {
   size = is.size ∙ nodes_are plan accepted;
   deep = All-from_get_or (IsDeep plan) heard (zero_state 0) (λ v lt.
       let node : v < tree_nodes (tree_of plan) = omega (arith, lt, is.size) in
-      let deep = state_deep plan accepted v node (state_of heard v) (is.states v node) in
-      omega (arith, deep));
+      (is.fronts v node).deep);
 }
 
 module _ (plan : HalvingNumbers) (fields : List Fields) (kept : IsValidHalvingMachine plan fields) where

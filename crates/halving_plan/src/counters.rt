@@ -1,5 +1,6 @@
 ghost use Rattle.std.specs.Prelude.{◌≡◌, ℕ, ◌<◌, ◌≤◌, ◌↔◌, IsTrue, IfOk, All, length};
 ghost use Rattle.sync_types.specs.States.{zero_state};
+ghost use Rattle.construction.specs.Steps.{state_of};
 ghost use Rattle.halving_plan.specs.Steps.{tree_depth, shown_in, step_of};
 ghost use Rattle.halving_plan.specs.Runs.{IsState};
 ghost use Rattle.counter_core.specs.Meanings.{written, cut};
@@ -10,6 +11,7 @@ use crate::HalvingPlan;
 use crate::steps::step_group;
 use counter_core::{Heard, clear};
 use majority_votes::Tally;
+use state_codec::Packed;
 use std::alloc::Global;
 use sync_types::{NoMemory, NodeState};
 
@@ -42,6 +44,19 @@ pub fn output(plan: &HalvingPlan, state: &NodeState) -> u64
         state.x()
     } else {
         state.reg(0).a.unwrap_or(0)
+    }
+}
+
+/// What a node shows in the current configuration.
+pub fn output_in(plan: &HalvingPlan, v: u32, states: &Packed) -> u64
+    requires node { v < length states.now.current }
+    requires deep { tree_depth (tree_of plan.now) ≤ states.now.shape.depth }
+    ensures { result ≡ shown_in (tree_of plan.now) (state_of states.now.current v) }
+{
+    if plan.faults() == 0 {
+        states.x(v)
+    } else {
+        states.reg(v, 0).a.unwrap_or(0)
     }
 }
 

@@ -5,10 +5,10 @@ ghost use Rattle.halving_plan.specs.Runs.{all_fields};
 ghost use Rattle.halving_plan.specs.Plans.{tree_of};
 
 use crate::making::all_nodes_fields;
-use crate::{HalvingPlan, advance, output};
+use crate::{HalvingPlan, advance, output, output_in};
 use counter_core::{Heard, Work};
 use machines::Machine;
-use state_codec::Fields;
+use state_codec::{Fields, Packed};
 use std::alloc::Global;
 use std::marker::Model;
 use sync_types::{NoMemory, NodeState};
@@ -115,6 +115,10 @@ impl Machine for HalvingMachine {
 
     fn output(&self, _v: u32, state: &NodeState) -> u64 {
         output(&self.plan, state)
+    }
+
+    fn output_in(&self, v: u32, states: &Packed) -> u64 {
+        output_in(&self.plan, v, states)
     }
 
     fn advance(&self, v: u32, heard: &Heard<'_>, work: &mut Work, out: &mut NodeState) {

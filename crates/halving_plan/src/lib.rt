@@ -33,7 +33,7 @@ mod size_laws;
 mod steps;
 
 pub use bits::{levels, node_bits, node_bytes, state_bits, state_bytes};
-pub use counters::{advance, can_hear, output, zero};
+pub use counters::{advance, can_hear, output, output_in, zero};
 pub use counts::{Counts, count_group};
 pub use groups::Group;
 pub use halving_machines::HalvingMachine;

@@ -20,7 +20,7 @@ use Rattle.layer_laws.specs.CounterSlots.{slot_length}
 use Rattle.replicated_log.specs.EntryLength.{entry_length}
 use Rattle.sync_types.specs.States.{State}
 use Rattle.layer_laws.specs.Counters.{Bears}
-use Rattle.layer_runner.specs.Counters.{machine_counter}
+use Rattle.player.specs.Counters.{machine_counter}
 use Rattle.layer_runner.specs.Laws.{played_states, era_scenes, IsPlayable}
 use Rattle.layer_runner.proofs.MachinesSettle.{machines_settle}
 use Rattle.layer_runner.proofs.EraScenes.{borne_in, eras_are_layer_runs, eras_count}

@@ -9,8 +9,8 @@ use Rattle.counter_core.specs.Overlays.{Layer}
 use Rattle.machines.specs.Machines.{Machine}
 use Rattle.machine_runner.specs.Locks.{is_locked}
 use Rattle.layer_laws.specs.Numbers.{Numbers}
-use Rattle.layer_runner.specs.Counters.{machine_counter}
-use Rattle.layer_runner.specs.ReadOver.{IsReadWithLayer}
+use Rattle.player.specs.Counters.{machine_counter}
+use Rattle.player.specs.ReadOver.{IsReadWithLayer}
 use Rattle.layer_runner.specs.Laws.{IsPlayable}
 use Rattle.layer_runner.specs.PlayedTexts.{Wording, played_text}
 use Rattle.layer_parts.specs.declared.registers.Registers.{Registers}

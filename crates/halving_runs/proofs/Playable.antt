@@ -16,7 +16,7 @@ use Rattle.adversary_script.specs.ScriptPart.{IsTolerated}
 use Rattle.machine_runner.proofs.Firsts.{in_era}
 use Rattle.layer_laws.specs.Counters.{Bears}
 use Rattle.layer_laws.specs.CounterPlayed.{IsKeptFor}
-use Rattle.layer_runner.specs.Counters.{machine_counter}
+use Rattle.player.specs.Counters.{machine_counter}
 use Rattle.layer_runner.specs.Laws.{IsPlayable}
 use Rattle.layer_runner.proofs.EraScenes.{eras_count}
 use Rattle.layer_runner.specs.Counting.{ErasCount}

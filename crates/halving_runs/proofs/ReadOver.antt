@@ -5,8 +5,8 @@ use Rattle.state_codec.specs.Shapes.{Shape, shape_nodes}
 use Rattle.counter_core.specs.Overlays.{Layer, LayerFits}
 use Rattle.adversary_script.specs.Scripts.{Script}
 use Rattle.adversary_script.specs.ScriptPart.{IsScriptFor}
-use Rattle.layer_runner.specs.Counters.{machine_counter}
-use Rattle.layer_runner.specs.ReadOver.{IsShapeOver, IsReadWithLayer}
+use Rattle.player.specs.Counters.{machine_counter}
+use Rattle.player.specs.ReadOver.{IsShapeOver, IsReadWithLayer}
 use Rattle.layer_runner.proofs.MachinesSettle.{readers_fit}
 use Rattle.halving_plan.specs.Plans.{HalvingNumbers, IsAccepted}
 use Rattle.halving_plan.specs.Laws.{machine_in}

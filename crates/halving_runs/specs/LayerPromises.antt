@@ -17,8 +17,8 @@ use Rattle.layer_runner.specs.LinePromises.{LineDecides, LineFires, LinePuts}
 use Rattle.layer_runner.specs.LockTexts.{lock_of_era}
 use Rattle.layer_runner.specs.PlayedScripts.{PlaysScript}
 use Rattle.layer_runner.specs.SlotTexts.{begins_at}
-use Rattle.layer_runner.specs.Counters.{machine_counter}
-use Rattle.layer_runner.specs.ReadOver.{IsReadWithLayer}
+use Rattle.player.specs.Counters.{machine_counter}
+use Rattle.player.specs.ReadOver.{IsReadWithLayer}
 use Rattle.layer_runner.specs.Laws.{played_states, era_scenes, EraIsLayerRun, EraCountsFrom}
 use Rattle.layer_runner.specs.Laws.{EraStaysLocked}
 use Rattle.consensus_layer.specs.AgreeContent.{AgreeContent}

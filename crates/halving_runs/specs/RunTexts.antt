@@ -16,7 +16,7 @@ use Rattle.machine_runner.specs.Locks.{is_locked}
 use Rattle.machine_runner.specs.ShownTexts.{run_text}
 use Rattle.machine_runner.specs.HoldTexts.{hold_text}
 use Rattle.slot_table.specs.declared.lines.SlotLine.{SlotLine}
-use Rattle.layer_runner.specs.Counters.{machine_counter}
+use Rattle.player.specs.Counters.{machine_counter}
 use Rattle.layer_runner.specs.DecisionTexts.{decision_text}
 use Rattle.layer_runner.specs.FireTexts.{fire_text}
 use Rattle.layer_runner.specs.EntryTexts.{log_text}

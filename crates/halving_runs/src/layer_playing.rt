@@ -1,8 +1,8 @@
 ghost use Rattle.std.specs.Prelude.{◌≡◌, MatchResult, IfErr};
 ghost use Rattle.halving_plan.specs.Laws.{machine_in};
 ghost use Rattle.machine_runner.specs.Locks.{is_locked};
-ghost use Rattle.layer_runner.specs.Counters.{machine_counter};
-ghost use Rattle.layer_runner.specs.ReadOver.{IsReadWithLayer};
+ghost use Rattle.player.specs.Counters.{machine_counter};
+ghost use Rattle.player.specs.ReadOver.{IsReadWithLayer};
 ghost use Rattle.layer_runner.specs.PlayedTexts.{played_text};
 ghost use Rattle.halving_runs.specs.RunTexts.{IsPlayed, FailsToPlay, IsWritten, KeepsSink};
 ghost use Rattle.halving_runs.specs.RunTexts.{layer_run};
@@ -13,8 +13,10 @@ use crate::refusals::put_error;
 use counter_core::Overlay;
 use edge_io::Sink;
 use layer_parts::LayerPart;
-use layer_runner::{LayerRunner, Lines, put_played};
+use layer_runner::{Lines, put_played};
 use machines::Machine;
+use player::Player;
+use rounds::Plain;
 use std::alloc::Global;
 
 /// Plays a script that was read for a machine with a layer above, and writes the lines.
@@ -34,8 +36,9 @@ fn play_above<K: Sink, O: Overlay, L: Lines<O>>(
     ensures untouched { IfErr result (KeepsSink sink.old sink.new) }
 {
     let (machine, shape, script) = scripted;
-    let mut runner = LayerRunner::new(alloc, &machine, shape, script, overlay)?;
-    put_played(sink, &mut runner, lines)?;
+    let machine = Plain::of(&machine);
+    let mut player = Player::new(alloc, &machine, shape, script, overlay)?;
+    put_played(sink, &mut player, lines)?;
     Ok(())
 }
 

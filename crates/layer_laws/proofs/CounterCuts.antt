@@ -9,11 +9,12 @@ use Rattle.std.proofs.lemmas.List.FromFn.{get_or-map-range_with_len}
 use Rattle.sync_types.specs.declared.states.Reg.{Reg}
 use Rattle.sync_types.specs.States.{State, zero_state, zero_register, register_at}
 use Rattle.construction.specs.Steps.{state_of}
-use Rattle.construction.specs.Runs.{is_in, configuration, heard_of, heard_by}
+use Rattle.construction.specs.Machines.{is_in, configuration, heard_of, heard_by}
+use Rattle.construction.specs.Machines.{IsConfiguration, IsTold, IsTable, IsNext, Run}
 use Rattle.plan_laws.proofs.Ranges.{state_of-cut}
 use Rattle.counter_core.specs.Meanings.{Meaning, cut}
 use Rattle.counter_core.specs.Overlays.{Layer}
-use Rattle.layer_laws.specs.Counters.{HasFront, IsConfiguration, IsTold, IsTable, IsNext, Run}
+use Rattle.layer_laws.specs.Counters.{HasFront}
 use Rattle.layer_laws.specs.Scenes.{Scene, kept_of, layer_step, new_state}
 use Rattle.layer_laws.specs.CounterLayers.{IsLayerState, IsLayerConfiguration, IsLayerTold}
 use Rattle.layer_laws.specs.CounterLayers.{IsLayerTable, LayerRun, scene, without_layer}

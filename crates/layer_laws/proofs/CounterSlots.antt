@@ -4,7 +4,8 @@ use Rattle.sync_types.specs.States.{State}
 use Rattle.construction.specs.Steps.{state_of}
 use Rattle.counter_core.specs.Meanings.{Meaning}
 use Rattle.counter_core.specs.Overlays.{Layer}
-use Rattle.layer_laws.specs.Counters.{Bears, IsSettling, CountsFrom}
+use Rattle.construction.specs.Machines.{CountsFrom}
+use Rattle.layer_laws.specs.Counters.{Bears, IsSettling}
 use Rattle.layer_laws.specs.Scenes.{Scene}
 use Rattle.layer_laws.specs.CounterLayers.{LayerRun, scene, without_layer}
 use Rattle.layer_laws.specs.CounterLaws.{RunsWithoutLayerOver, SlotsAgreeOver}
@@ -23,7 +24,7 @@ pub counts_of : {Kept : Type 0} (counter : Meaning) (is_state : (v : ℕ) → St
     (layer : Layer Kept) → IsSettling counter is_state
     → (faulty : List ℕ) → Bears counter faulty → (first : ℕ) (run : List (Scene Kept))
     → LayerRun counter is_state layer faulty first run
-    → CountsFrom counter is_state faulty (without_layer counter run) counter.bound
+    → CountsFrom counter faulty (without_layer counter run) counter.bound
 counts_of counter is_state layer settling faulty borne first run is =
     settling.settles faulty (without_layer counter run) borne
     (cut_run counter is_state layer faulty first run is settling.front)

@@ -20,7 +20,8 @@ use Rattle.plan_laws.proofs.Ranges.{state_of-cut}
 use Rattle.counter_core.specs.Meanings.{Meaning, cut}
 use Rattle.counter_core.specs.Overlays.{Layer}
 use Rattle.counter_core.proofs.StateLists.{choice_is}
-use Rattle.layer_laws.specs.Counters.{HasFront, CountsFrom}
+use Rattle.construction.specs.Machines.{CountsFrom}
+use Rattle.layer_laws.specs.Counters.{HasFront}
 use Rattle.layer_laws.specs.Scenes.{Scene}
 use Rattle.layer_laws.specs.CounterLayers.{IsLayerState, IsLayerConfiguration, IsLayerTold}
 use Rattle.layer_laws.specs.CounterLayers.{LayerRun}
@@ -85,7 +86,7 @@ module _ {Kept : Type 0} (counter : Meaning) (is_state : (v : ℕ) → State →
   -- ---- from the bound on the outputs count
 
   module _ (front : HasFront counter)
-      (counts : CountsFrom counter is_state faulty (without_layer counter run) counter.bound) where
+      (counts : CountsFrom counter faulty (without_layer counter run) counter.bound) where
     pub shown_at : (t v : ℕ) → counter.bound ≤ t → t < length run → v < counter.nodes
         → is_in faulty v ≡ false
         → counter.shows v (state_of (scene run t).states v) ≡ counts.output t

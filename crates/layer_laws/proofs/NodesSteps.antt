@@ -8,7 +8,7 @@ use Rattle.plan_laws.specs.PlanMeaning.{plan_meaning}
 use Rattle.counter_core.specs.Overlays.{Layer}
 use Rattle.layer_laws.specs.Scenes.{Scene}
 use Rattle.layer_laws.specs.LayerRuns.{LayerRun, scene, without_layer}
-use Rattle.layer_laws.proofs.PlanCounters.{front_of_plan, counts_of_counter}
+use Rattle.layer_laws.proofs.PlanCounters.{front_of_plan}
 use Rattle.layer_laws.proofs.CounterSteps as counters
 
 module _ {Kept : Type 0} (plan : Plan) (layer : Layer Kept) (faulty : List ℕ) (first : ℕ)
@@ -19,4 +19,4 @@ module _ {Kept : Type 0} (plan : Plan) (layer : Layer Kept) (faulty : List ℕ) 
       → shown (plan_depth plan) (state_of (scene run t).states v) ≡ counts.output t
   shown_at =
       counters.shown_at (plan_meaning plan) (IsState plan) layer faulty first run is
-      (front_of_plan plan) (counts_of_counter plan faulty (without_layer plan run) counts)
+      (front_of_plan plan) counts

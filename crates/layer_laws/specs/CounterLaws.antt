@@ -3,7 +3,8 @@ use Rattle.std.specs.Prelude.{◌≡◌, ℕ, ◌+◌, ◌%◌, ◌<◌, ◌≤�
 use Rattle.sync_types.specs.States.{State}
 use Rattle.counter_core.specs.Meanings.{Meaning}
 use Rattle.counter_core.specs.Overlays.{Layer, SameNumbers, LayerFits, KeepsRange}
-use Rattle.layer_laws.specs.Counters.{Bears, HasFront, IsSettling, Run}
+use Rattle.construction.specs.Machines.{Run}
+use Rattle.layer_laws.specs.Counters.{Bears, HasFront, IsSettling}
 use Rattle.layer_laws.specs.Scenes.{Scene}
 use Rattle.layer_laws.specs.CounterLayers.{IsLayerConfiguration, LayerRun, scene, without_layer}
 use Rattle.layer_laws.specs.CounterPlayed.{Telling, TellsInRange, IsKeptFor, era_from}

@@ -8,7 +8,8 @@ use Rattle.counter_core.specs.Overlays.{Layer}
 use Rattle.adversary_script.specs.Scripts.{Script}
 use Rattle.adversary_script.specs.Eras.{first_of_era, end_of_era, faulty_of_era}
 use Rattle.machine_runner.proofs.Eras.{era_long, place_is, of_each_era}
-use Rattle.layer_laws.specs.Counters.{Bears, CountsFrom}
+use Rattle.construction.specs.Machines.{CountsFrom}
+use Rattle.layer_laws.specs.Counters.{Bears}
 use Rattle.layer_laws.specs.CounterLayers.{scene, without_layer}
 use Rattle.layer_laws.specs.Scenes.{Scene}
 use Rattle.layer_laws.proofs.CounterSteps.{shown_at}
@@ -47,7 +48,7 @@ module _ {Kept : Type 0} (counter : Meaning) (is_state : (v : ℕ) → State →
   abbrev faulty : List ℕ
   faulty = faulty_of_era script j
 
-  counts : CountsFrom counter is_state faulty (without_layer counter run) counter.bound
+  counts : CountsFrom counter faulty (without_layer counter run) counter.bound
   counts =
       counts_of counter is_state layer plays.settling faulty
       (of_each_era (Bears counter) script j among plays.borne) (first_of_era script j) run

@@ -22,11 +22,11 @@ use Rattle.layer_laws.proofs.CounterSlots.{runs_without_layer_over}
 use Rattle.machine_runner.proofs.Eras.{era_long, place_is, neighbours, of_each_era, same_faulty}
 use Rattle.machine_runner.proofs.Firsts.{none_inside, none_hit, era_some}
 use Rattle.counter_core.proofs.StateLists.{each_below}
-use Rattle.layer_runner.specs.Counters.{machine_counter}
+use Rattle.player.specs.Counters.{machine_counter}
 use Rattle.layer_runner.specs.Laws.{IsPlayable, EraCountsFrom, ErasAreLayerRuns}
 use Rattle.layer_runner.specs.Laws.{ErasCount, played_scene, era_scenes}
 use Rattle.layer_runner.proofs.CutStates.{state_of-cut}
-use Rattle.layer_runner.proofs.MachinesSettle.{machines_settle, run_of}
+use Rattle.layer_runner.proofs.MachinesSettle.{machines_settle}
 use Rattle.layer_runner.proofs.SceneStates.{configuration_is, table_is}
 use Rattle.layer_laws.proofs.SceneSteps.{steps_as}
 
@@ -79,10 +79,8 @@ module _ {Kept : Type 0} (machine : Machine) (script : Script) (layer : Layer Ke
   }
 
   pub bare_run : Run machine faulty (without_layer counter scenes)
-  bare_run = run_of machine faulty (without_layer counter scenes)
-      (runs_without_layer_over layer counter (IsState machine)
-      (machines_settle machine is.sound).front faulty first scenes
-      layer_run)
+  bare_run = runs_without_layer_over layer counter (IsState machine)
+      (machines_settle machine is.sound).front faulty first scenes layer_run
 
   pub bare_long : length (without_layer counter scenes) ≡ count
   bare_long = length-map scenes (λ (s : Scene Kept). map (cut counter.depth) s.states)

@@ -1,15 +1,9 @@
 pub mod CutStates
 pub mod EraScenes
-pub mod Keeping
-pub mod LaidFronts
-pub mod LayerSteps
 pub mod MachinesSettle
-pub mod ReadOver
-pub mod Rooms
 pub mod SceneLocks
 pub mod SceneStates
 pub mod StatesFit
-pub mod TurnSteps
 pub mod CountedSlots
 pub mod DecisionLaws
 pub mod Ending

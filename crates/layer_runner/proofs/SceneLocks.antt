@@ -30,13 +30,13 @@ use Rattle.machine_runner.proofs.FirstLocked.{passes}
 use Rattle.machine_runner.proofs.FirstPassing.{first_locked_below}
 use Rattle.machine_runner.proofs.Firsts.{in_era}
 use Rattle.machine_runner.proofs.Locked.{lock_test_is_exact}
-use Rattle.layer_runner.specs.Counters.{machine_counter}
+use Rattle.player.specs.Counters.{machine_counter}
 use Rattle.layer_runner.specs.Laws.{IsPlayable, EraCountsFrom, EraStaysLocked, ErasLock}
 use Rattle.layer_runner.specs.Laws.{ErasStayLocked}
 use Rattle.layer_runner.specs.Laws.{played_states, era_scenes}
 use Rattle.layer_runner.proofs.CutStates.{state_of-cut}
 use Rattle.layer_runner.proofs.EraScenes.{bare_run, bare_long, bare_at, borne_in, counts_from}
-use Rattle.layer_runner.proofs.MachinesSettle.{machines_settle, run_of}
+use Rattle.layer_runner.proofs.MachinesSettle.{machines_settle}
 use Rattle.layer_runner.proofs.SceneStates.{configuration_is}
 
 -- a register after the front of a state is zero there, and so no locked one
@@ -81,13 +81,12 @@ module _ (machine : Machine) (sound : IsSound machine) (config : List State)
   }
 
   run_is : Run machine [] run
-  run_is = run_of machine [] run
-      (runs_without_layer_over no_layer counter (IsState machine)
+  run_is = runs_without_layer_over no_layer counter (IsState machine)
       (machines_settle machine sound).front [] 0 _
       (eras_are_runs_over no_layer counter (IsState machine) (machines_settle machine sound)
       (λ some. absurd (omega (arith, some))) no_layer_keeps [] honest
       (λ t u v config ult vlt states. states.states u ult) 0 begin begin_is (inl (λ x y. refl))
-      machine.bound))
+      machine.bound)
 
   reaches : machine.bound < length run
   reaches =

@@ -21,9 +21,9 @@ use Rattle.layer_laws.specs.PlayedScenes.{begun_kept, state_behind}
 use Rattle.machine_runner.proofs.Hits.{put_has, hit_has}
 use Rattle.counter_core.proofs.StateLists.{each_below}
 use Rattle.machine_runner.proofs.Places.{placed}
-use Rattle.layer_runner.specs.Counters.{machine_counter}
+use Rattle.player.specs.Counters.{machine_counter}
 use Rattle.layer_runner.specs.Laws.{IsPlayable, played_scene, played_states}
-use Rattle.layer_runner.proofs.LayerSteps.{new_in_range}
+use Rattle.player.proofs.LayerSteps.{new_in_range}
 use Rattle.layer_runner.proofs.StatesFit.{state_of_layer}
 
 module _ {Kept : Type 0} (machine : Machine) (script : Script) (layer : Layer Kept)

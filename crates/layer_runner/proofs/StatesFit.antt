@@ -16,10 +16,10 @@ use Rattle.machines.specs.Laws.{IsSound}
 use Rattle.adversary_script.specs.Scripts.{Script}
 use Rattle.adversary_script.proofs.LiesInRange.{depth_of_node}
 use Rattle.layer_laws.specs.CounterLayers.{IsLayerState}
-use Rattle.layer_runner.specs.Counters.{machine_counter}
+use Rattle.player.specs.Counters.{machine_counter}
 use Rattle.layer_runner.specs.Laws.{StatesFit}
-use Rattle.layer_runner.specs.ReadOver.{IsReadWithLayer}
-use Rattle.layer_runner.proofs.ReadOver.{front_is, values_are, joined}
+use Rattle.player.specs.ReadOver.{IsReadWithLayer}
+use Rattle.player.proofs.ReadOver.{front_is, values_are, joined}
 
 module _ {Kept : Type 0} (machine : Machine) (layer : Layer Kept) (script : Script)
     (sound : IsSound machine) (is : IsReadWithLayer machine layer script) (v : ℕ)

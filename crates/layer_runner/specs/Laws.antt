@@ -20,8 +20,8 @@ use Rattle.layer_laws.specs.CounterLayers.{IsLayerState, LayerRun, LayerRound, w
 use Rattle.layer_laws.specs.CounterPlayed.{IsKeptFor}
 use Rattle.layer_laws.specs.Scenes.{Scene}
 use Rattle.layer_laws.specs.PlayedScenes.{scene_at}
-use Rattle.layer_runner.specs.Counters.{machine_counter}
-use Rattle.layer_runner.specs.ReadOver.{IsShapeOver, IsReadWithLayer}
+use Rattle.player.specs.Counters.{machine_counter}
+use Rattle.player.specs.ReadOver.{IsShapeOver, IsReadWithLayer}
 
 -- What is read for so many nodes and faults and for the shape of a machine with a layer is read for
 -- both.

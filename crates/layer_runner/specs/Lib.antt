@@ -1,10 +1,4 @@
-pub mod Counters
-pub mod Fronts
-pub mod Kept
 pub mod Laws
-pub mod ReadOver
-pub mod Rooms
-pub mod Runners
 pub mod CountedSlots
 pub mod Counting
 pub mod DecisionTexts

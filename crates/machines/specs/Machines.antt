@@ -5,7 +5,9 @@ use Rattle.std.specs.Prelude.{false, All, slice_index_or}
 use Rattle.std.specs.List.Sorted.{IsStrictlyIncreasing}
 use Rattle.sync_types.specs.States.{State}
 use Rattle.construction.specs.Steps.{state_of}
-use Rattle.construction.specs.Runs.{is_in, configuration, heard_by, AllLocked}
+use Rattle.construction.specs.Machines as any
+use Rattle.construction.specs.Runs.{AllLocked}
+use Rattle.counter_core.specs.Meanings.{cut}
 use Rattle.state_codec.specs.Shapes.{Fields}
 use Rattle.state_codec.specs.Ranges.{InRange}
 
@@ -39,63 +41,55 @@ module _ (machine : Machine) where
   abbrev pub IsLocked : (faulty : List ℕ) (config : List State) → Type 0
   IsLocked faulty config = LockedBy machine.lock machine.nodes faulty config
 
-  -- a state for each node
-  pub record IsConfiguration (config : List State) : Type 0 where
-    pub size : length config ≡ machine.nodes
-    pub states : (v : ℕ) → v < machine.nodes → IsState v (state_of config v)
+  -- its numbers, what its states show, and the step
+  abbrev pub core : any.Machine
+  core = record {
+    nodes = machine.nodes;
+    faults = machine.faults;
+    modulus = machine.modulus;
+    bound = machine.bound;
+    depth = machine.depth;
+    shows = machine.shows;
+    next = machine.step;
+  }
 
-  -- what node u tells each receiver: states of its own
-  pub record IsTold (u : ℕ) (told : List State) : Type 0 where
-    pub size : length told ≡ machine.nodes
-    pub states : All (IsState u) told
+  -- The number and the first registers are a state of node v: those of a layer may stand after them.
+  pub record IsFront (v : ℕ) (state : State) : Type 0 where
+    pub deep : machine.depth ≤ length state.registers
+    pub front : IsState v (cut machine.depth state)
 
-  -- for each sender, what it tells each receiver
-  pub record IsTable (lies : List (List State)) : Type 0 where
-    pub size : length lies ≡ machine.nodes
-    pub rows : (u : ℕ) → u < machine.nodes → IsTold u (slice_index_or lies u [])
+  -- such a state for each node
+  pub record AreFronts (states : List State) : Type 0 where
+    pub size : length states ≡ machine.nodes
+    pub fronts : (v : ℕ) → v < machine.nodes → IsFront v (state_of states v)
 
-  -- A round: each correct node steps from what it hears. The states of faulty nodes are free.
-  pub record Round (faulty : List ℕ) (old : List State) (lies : List (List State))
-      (new : List State) : Type 0 where
-    pub table : IsTable lies
-    pub steps : (v : ℕ) → v < machine.nodes → is_in faulty v ≡ false
-        → state_of new v ≡ machine.step v (heard_by machine.nodes faulty old lies v)
+  abbrev pub IsConfiguration : (config : List State) → Type 0
+  IsConfiguration config = any.IsConfiguration core IsState config
 
-  -- the next configuration is that of a round with some table of lies
-  pub record IsNext (faulty : List ℕ) (old new : List State) : Type 0 where
-    pub lies : List (List State)
-    pub round : Round faulty old lies new
+  abbrev pub IsTold : (u : ℕ) (told : List State) → Type 0
+  IsTold u told = any.IsTold core IsState u told
 
-  -- a run: at least one configuration, and a round between each two neighbours
-  pub record Run (faulty : List ℕ) (run : List (List State)) : Type 0 where
-    pub some : 0 < length run
-    pub configurations : All IsConfiguration run
-    pub rounds : (t : ℕ) → t + 1 < length run
-        → IsNext faulty (configuration run t) (configuration run (t + 1))
+  abbrev pub IsTable : (lies : List (List State)) → Type 0
+  IsTable lies = any.IsTable core IsState lies
 
-  -- all correct nodes show this number
+  abbrev pub Round : (faulty : List ℕ) (old : List State) (lies : List (List State))
+      (new : List State) → Type 0
+  Round faulty old lies new = any.Round core IsState faulty old lies new
+
+  abbrev pub IsNext : (faulty : List ℕ) (old new : List State) → Type 0
+  IsNext faulty old new = any.IsNext core IsState faulty old new
+
+  abbrev pub Run : (faulty : List ℕ) (run : List (List State)) → Type 0
+  Run faulty run = any.Run core IsState faulty run
+
   abbrev pub AllShow : (faulty : List ℕ) (config : List State) (output : ℕ) → Type 0
-  AllShow faulty config output =
-      (v : ℕ) → v < machine.nodes → is_in faulty v ≡ false
-      → machine.shows v (state_of config v) ≡ output
+  AllShow faulty config output = any.AllShow core faulty config output
 
-  -- from a configuration on all correct nodes show one number, which grows by one modulo C
-  pub record CountsFrom (faulty : List ℕ) (run : List (List State)) (from : ℕ) : Type 0 where
-    pub output : ℕ → ℕ
-    pub shows : (t : ℕ) → from ≤ t → t < length run
-        → AllShow faulty (configuration run t) (output t)
-    pub grows : (t : ℕ) → from ≤ t → t + 1 < length run
-        → output (t + 1) ≡ (output t + 1) % machine.modulus
+  abbrev pub CountsFrom : (faulty : List ℕ) (run : List (List State)) (from : ℕ) → Type 0
+  CountsFrom faulty run from = any.CountsFrom core faulty run from
 
-  -- a faulty set that the counter tolerates: rising ids of nodes, at most F
-  pub record IsToleratedBy (faulty : List ℕ) : Type 0 where
-    pub rising : IsStrictlyIncreasing faulty
-    pub ids : All (λ id. id < machine.nodes) faulty
-    pub few : length faulty ≤ machine.faults
+  abbrev pub IsToleratedBy : (faulty : List ℕ) → Type 0
+  IsToleratedBy faulty = any.IsToleratedBy core faulty
 
-  -- Whatever the start and the lies, with each faulty set that it tolerates, it counts from the
-  -- bound on.
   abbrev pub Settles : Type 0
-  Settles =
-      (faulty : List ℕ) (run : List (List State)) → IsToleratedBy faulty → Run faulty run
-      → CountsFrom faulty run machine.bound
+  Settles = any.Settles core IsState

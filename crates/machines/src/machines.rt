@@ -1,12 +1,15 @@
 ghost use Rattle.std.specs.Prelude.{◌≡◌, ◌+◌, ◌<◌, ◌≤◌, length, take};
+ghost use Rattle.construction.specs.Steps.{state_of};
 ghost use Rattle.state_codec.specs.Shapes.{bytes_in};
 ghost use Rattle.state_codec.specs.Reading.{read};
 ghost use Rattle.state_codec.specs.Writing.{written};
+ghost use Rattle.counter_core.specs.Meanings.{written as put};
 ghost use Rattle.counter_core.specs.Working.{IsWorkFor, IsAsRoomy};
-ghost use Rattle.machines.specs.Machines.{Machine, IsState, IsConfiguration};
+ghost use Rattle.machines.specs.Machines.{Machine, IsState, IsFront, AreFronts};
 ghost use Rattle.machines.specs.Laws.{IsSound};
 
 use counter_core::{Heard, Work};
+use state_codec::Packed;
 use sync_types::NodeState;
 
 /// A counter whose nodes have states that are read and written as bytes. Its nodes step by what
@@ -72,19 +75,29 @@ pub trait Machine: Drop {
         ensures { out.new ≡ read ((machine self.now).fields v)
             (take (bytes_in ((machine self.now).fields v)) bytes.now) };
 
-    /// What a state of node `v` shows, below the modulus.
+    /// What a state of node `v` shows, below the modulus. Registers after the machine's own do not
+    /// matter.
     fn output(&self, v: u32, state: &NodeState) -> u64
         requires node { v < (machine self.now).nodes }
-        requires state { IsState (machine self.now) v state.now }
+        requires state { IsFront (machine self.now) v state.now }
         ensures { result ≡ (machine self.now).shows v state.now };
 
-    /// Makes the step of node `v`, from what it hears of all nodes. It takes no memory: `work` has
-    /// room for all nodes.
+    /// What node `v` shows in the current configuration, of which no more is read than that takes.
+    fn output_in(&self, v: u32, states: &Packed) -> u64
+        requires node { v < (machine self.now).nodes }
+        requires among { v < length states.now.current }
+        requires deep { (machine self.now).depth ≤ states.now.shape.depth }
+        ensures { result ≡ (machine self.now).shows v (state_of states.now.current v) };
+
+    /// Makes the step of node `v`, from what it hears of all nodes. It writes the number and the
+    /// machine's registers, and leaves further registers of `out` as they are; those of what is
+    /// heard do not matter. It takes no memory: `work` has room for all nodes.
     fn advance(&self, v: u32, heard: &Heard<'_>, work: &mut Work, out: &mut NodeState)
         requires node { v < (machine self.now).nodes }
-        requires heard { IsConfiguration (machine self.now) heard.now }
+        requires heard { AreFronts (machine self.now) heard.now }
         requires work { IsWorkFor (machine self.now).nodes work.old }
-        requires out { length out.old.registers ≡ (machine self.now).depth }
-        ensures out { out.new ≡ (machine self.now).step v heard.now }
+        requires out { (machine self.now).depth ≤ length out.old.registers }
+        ensures out { out.new ≡ put (machine self.now).depth
+            ((machine self.now).step v heard.now) out.old }
         ensures work { IsAsRoomy work.old work.new };
 }

@@ -2,6 +2,7 @@ use counter_core::{Heard, Work};
 use halving_plan::HalvingMachine;
 use machines::Machine;
 use plan_machine::PlanMachine;
+use state_codec::Packed;
 use sync_types::NodeState;
 
 /// The machine of a plan of either construction.
@@ -99,6 +100,13 @@ impl Machine for AnyMachine {
         match self {
             AnyMachine::Boosting(machine) => machine.output(v, state),
             AnyMachine::Halving(machine) => machine.output(v, state),
+        }
+    }
+
+    fn output_in(&self, v: u32, states: &Packed) -> u64 {
+        match self {
+            AnyMachine::Boosting(machine) => machine.output_in(v, states),
+            AnyMachine::Halving(machine) => machine.output_in(v, states),
         }
     }
 

@@ -1,14 +1,18 @@
 -- One packet after another is heard and answered.
 use Rattle.std.proofs.Common.{◌≡◌, ℕ, suc, ◌+◌, ◌-◌, ◌<◌, ◌⊎◌, inl, inr, List, [], ◌∷◌, ◌++◌}
-use Rattle.std.proofs.Common.{Option, Ok, Err, refl, sym, ap, ◌∙◌, append_assoc, append-nil, subst}
+use Rattle.std.proofs.Common.{Option, Result, Ok, Err, refl, sym, ap, ◌∙◌, append_assoc, append-nil, subst}
 use Rattle.std.proofs.Common.{arith}
 use Rattle.std.specs.Io.KnownBytes.{Consumes, Keeps, IsAtEnd}
 use Rattle.std.proofs.KnownBytes.{Consumes-nil, Consumes-trans, Consumes-kept}
 use Rattle.std.specs.List.{flat_map}
-use Rattle.texts.specs.Growth.{SinkState, Wrote, Cut}
-use Rattle.texts.proofs.Growth.{wrote_then, cut_then, cut_more}
+use Rattle.texts.specs.Growth.{SinkState, Wrote, Cut, Puts}
+use Rattle.edge_io.specs.Writing.{Finishes}
+use Rattle.edge_io.specs.declared.writer.Writer.{Writer}
+use Rattle.texts.proofs.Growth.{cut_more}
 use Rattle.sync_types.specs.States.{State}
 use Rattle.machines.specs.Machines.{Machine}
+use Rattle.node_stepper.specs.declared.faults.Amount.{Amount}
+use Rattle.node_stepper.specs.declared.faults.NodeFault.{NodeFault}
 use Rattle.node_stepper.specs.declared.faults.NodeFault.TheVariants as fault
 use Rattle.node_stepper.specs.Packets.{cells_of, Ending, whole, cut, beyond, Packets, packets_of}
 use Rattle.node_stepper.specs.Packets.{most_packets}
@@ -16,6 +20,7 @@ use Rattle.node_stepper.specs.Nodes.{Standing, own, nobody, state_cell, state_af
 use Rattle.node_stepper.specs.Nodes.{stepped, forgetting}
 use Rattle.node_stepper.specs.Hearing.{IsSame, PacketFed, PacketCut}
 use Rattle.node_stepper.specs.Serving.{StandsBehind, served, answer, Served, ServedCut, Serves}
+use Rattle.node_stepper.specs.Serving.{PassesOn}
 use Rattle.node_stepper.proofs.NodeTexts.{state_push, replies, text_push, text_more, text_none}
 use Rattle.node_stepper.proofs.Packets.{after, after_one_more, packets_next, packets_cut, within_if}
 use Rattle.node_stepper.proofs.PacketByPacket.{own_stepped}
@@ -41,7 +46,8 @@ module _ {M : Type 0} (machine : M → Machine) where
     abbrev cell : State → List ℕ
     cell s = state_cell (machine before.counter) before.id s
 
-    pub record ServedSoFar (now : Standing M) (s t : Option (List ℕ)) (w x : SinkState)
+    -- so many packets were read and heard; `Takes text` says that this text was written
+    pub record ServedSoFar (Takes : List ℕ → Type 0) (now : Standing M) (s t : Option (List ℕ))
         (count : ℕ) : Type 0 where
       pub bytes : List ℕ
       pub packets : List (List (List ℕ))
@@ -50,7 +56,7 @@ module _ {M : Type 0} (machine : M → Machine) where
           → packets_of size most_packets 0 (bytes ++ rest)
           ≡ after packets (packets_of size (most_packets - count) count rest)
       pub stands : StandsBehind machine before now packets
-      pub wrote : Wrote (answer machine before packets) w x
+      pub wrote : Takes (answer machine before packets)
 
     -- an engine's own cell after packets
     cell_is : (now : Standing M) (packets : List (List (List ℕ)))
@@ -61,30 +67,10 @@ module _ {M : Type 0} (machine : M → Machine) where
         ∙ ap (λ c. state_cell (machine c) now.id (behind packets)) stands.counter
         ∙ ap (λ i. state_cell (machine before.counter) i (behind packets)) stands.id
 
-    -- the first cell is cut, whatever follows
-    pub first_cut : (now : Standing M) (s : Option (List ℕ)) (w x : SinkState)
+    pub served_none : (Takes : List ℕ → Type 0) (now : Standing M) (s : Option (List ℕ))
         → StandsBehind machine before now []
-        → Cut (state_cell (machine now.counter) now.id (own now)) w x
-        → ServedCut machine before now s s w x
-    first_cut now s w x stands is = record {
-      bytes = [];
-      read = Consumes-nil s;
-      cut = λ rest.
-          let packets = (served machine before rest).cells in
-          let first : Cut (answer machine before []) w x =
-          rw (text_none (machine before.counter) before.id (own before), ← cell_is now [] stands) is
-          in
-          rw (text_more (machine before.counter) before.id (own before) [] packets)
-          (cut_more w x (answer machine before [])
-          (flat_map cell (replies (machine before.counter) before.id (own before) packets)) first);
-      late = inl refl;
-      stands = stands;
-    }
-
-    pub served_none : (now : Standing M) (s : Option (List ℕ)) (w x : SinkState)
-        → StandsBehind machine before now []
-        → Wrote (state_cell (machine now.counter) now.id (own now)) w x → ServedSoFar now s s w x 0
-    served_none now s w x stands wrote = record {
+        → Takes (state_cell (machine now.counter) now.id (own now)) → ServedSoFar Takes now s s 0
+    served_none Takes now s stands wrote = record {
       bytes = [];
       packets = [];
       read = Consumes-nil s;
@@ -97,8 +83,8 @@ module _ {M : Type 0} (machine : M → Machine) where
       ) wrote;
     }
 
-    module _ (now : Standing M) (s t u : Option (List ℕ)) (w x : SinkState) (count : ℕ)
-        (h : ServedSoFar now s t w x count) where
+    module _ (Takes : List ℕ → Type 0) (now : Standing M) (s t u : Option (List ℕ)) (count : ℕ)
+        (h : ServedSoFar Takes now s t count) where
       all_of : (rest : List ℕ) (ending : Ending)
           → packets_of size (most_packets - count) count rest
           ≡ record { cells = []; ending = ending }
@@ -114,7 +100,8 @@ module _ {M : Type 0} (machine : M → Machine) where
           (rest : List ℕ)
           (ending : Ending) (read : Consumes t u rest)
           (is : packets_of size (most_packets - count) count rest
-          ≡ record { cells = []; ending = ending }) where
+          ≡ record { cells = []; ending = ending })
+          (w x : SinkState) (wrote : Wrote (answer machine before h.packets) w x) where
         all : packets_of size most_packets 0 (h.bytes ++ rest)
             ≡ record { cells = h.packets; ending = ending }
         all = all_of rest ending is
@@ -123,7 +110,7 @@ module _ {M : Type 0} (machine : M → Machine) where
         stops = record {
           bytes = h.bytes ++ rest;
           read = Consumes-trans s t u h.bytes rest h.read read;
-          wrote = rw all h.wrote;
+          wrote = rw all wrote;
           stands = rw all stands;
         }
 
@@ -223,10 +210,11 @@ module _ {M : Type 0} (machine : M → Machine) where
             ∙ ap cell (state_push (machine before.counter) before.id (own before) h.packets
             fed.packet)
 
-        pub served_more : (y : SinkState) → Wrote (state_cell (machine new.counter) new.id
-            (own new)) x y
-            → ServedSoFar new s u w y (count + 1)
-        served_more y wrote = record {
+        pub served_more : (Then : List ℕ → Type 0)
+            → ((text : List ℕ) → Takes text
+            → Then (text ++ state_cell (machine new.counter) new.id (own new)))
+            → ServedSoFar Then new s u (count + 1)
+        served_more Then one_more = record {
           bytes = h.bytes ++ fed.bytes;
           packets = h.packets ++ fed.packet ∷ [];
           read = Consumes-trans s t u h.bytes fed.bytes h.read fed.read;
@@ -237,104 +225,118 @@ module _ {M : Type 0} (machine : M → Machine) where
                 fed.packet,
             ← new_cell,
           )
-              (wrote_then w x y (answer machine before h.packets)
-              (state_cell (machine new.counter) new.id (own new))
-              h.wrote wrote);
+              (one_more (answer machine before h.packets) h.wrote);
         }
 
-        last_packets : served machine before (h.bytes ++ fed.bytes)
-            ≡ record { cells = h.packets ++ fed.packet ∷ []; ending = whole (count + 1) }
-        last_packets =
-            ap (packets_of size most_packets 0) (sym (append-nil (h.bytes ++ fed.bytes)))
-            ∙ are_more []
-            ∙ ap (λ (l : List (List (List ℕ))). let p : Packets =
-            record { cells = l; ending = whole (count + 1) } in p)
-            (append-nil (h.packets ++ fed.packet ∷ []))
-
-        pub served_cut : (y : SinkState) → Cut (state_cell (machine new.counter) new.id (own new)) x
-            y
-            → ServedCut machine before new s u w y
-        served_cut y is = record {
-          bytes = h.bytes ++ fed.bytes;
-          read = Consumes-trans s t u h.bytes fed.bytes h.read fed.read;
-          cut = λ rest.
-              let all = packets_of size (most_packets - (count + 1)) (count + 1) rest in
-              let text : Cut (answer machine before (h.packets ++ fed.packet ∷ [])) w y =
-              rw (
-                text_push (machine before.counter) before.id (own before) h.packets fed.packet,
-                ←
-                    new_cell,
-              )
-              (cut_then w x y (answer machine before h.packets)
-              (state_cell (machine new.counter) new.id (own new)) h.wrote
-              is) in
-              rw (
-                are_more rest,
-                text_more (machine before.counter) before.id (own before)
-                    (h.packets ++ fed.packet ∷ []) all.cells,
-              )
-              (cut_more w y (answer machine before (h.packets ++ fed.packet ∷ []))
-              (flat_map cell (replies (machine before.counter) before.id
-              (behind (h.packets ++ fed.packet ∷ []))
-              all.cells)) text);
-          late = inr (record {
-            done = h.packets;
-            packet = fed.packet;
-            mid = x;
-            count = count + 1;
-            are = last_packets;
-            wrote = h.wrote;
-            last = rw (← cell_is new (h.packets ++ fed.packet ∷ []) stands_more) is;
-          });
-          stands = rw last_packets stands_more;
-        }
+      -- a write failed: what was read and heard of a packet that was not whole is left out
+      stops_cut : (new : Standing M) → StandsBehind machine before new h.packets
+          → (rest : List ℕ) (ending : Ending) → Consumes t u rest
+          → packets_of size (most_packets - count) count rest
+          ≡ record { cells = []; ending = ending }
+          → (w x : SinkState) → Cut (answer machine before h.packets) w x
+          → ServedCut machine before new s u w x
+      stops_cut new stands rest ending read is w x was_cut = record {
+        bytes = h.bytes ++ rest;
+        read = Consumes-trans s t u h.bytes rest h.read read;
+        cut = λ later.
+            let all = packets_of size (most_packets - count) count (rest ++ later) in
+            rw (
+              append_assoc h.bytes rest later,
+              h.are (rest ++ later),
+              text_more (machine before.counter) before.id (own before) h.packets all.cells,
+            )
+            (cut_more w x (answer machine before h.packets)
+            (flat_map cell (replies (machine before.counter) before.id (behind h.packets)
+            all.cells)) was_cut);
+        stands = rw (all_of rest ending is) stands;
+      }
 
       -- the end, a packet that is cut, a read that failed, and a byte too many
       pub served_end : (new : Standing M) → new ≡ now → Consumes t u [] → IsAtEnd u
+          → (w x : SinkState) → Wrote (answer machine before h.packets) w x
           → Serves machine before new s u w x (Ok count)
       unfolding stops
-      served_end new is read end =
+      served_end new is read end w x wrote =
           let stands = unmoved new is in (
-            stops new stands [] (whole count) read refl,
-            stops_so new stands [] (whole count) read refl,
+            stops new stands [] (whole count) read refl w x wrote,
+            stops_so new stands [] (whole count) read refl w x wrote,
             end,
           )
 
       pub served_inside : (sender : ℕ) (mid new : Standing M) → count < most_packets
           → PacketCut ((machine now.counter).nodes) sender t u → IsAtEnd u
           → IsSame now mid → new ≡ forgetting machine mid
+          → (w x : SinkState) → Wrote (answer machine before h.packets) w x
           → Serves machine before new s u w x (Err (fault.Cut count sender))
       unfolding stops
-      served_inside sender mid new lt p end same is =
+      served_inside sender mid new lt p end same is w x wrote =
           let stands = again mid new same is in
           let ends = inside sender lt p in (
-            stops new stands p.bytes (cut count sender) p.read ends,
-            stops_so new stands p.bytes (cut count sender) p.read ends,
+            stops new stands p.bytes (cut count sender) p.read ends w x wrote,
+            stops_so new stands p.bytes (cut count sender) p.read ends w x wrote,
             end,
           )
 
       pub served_fault : (mid new : Standing M) → count < most_packets
           → Consumes t u [] ⊎ ((sender : ℕ) × PacketCut ((machine now.counter).nodes) sender t u)
           → IsSame now mid → new ≡ forgetting machine mid
+          → (w x : SinkState) → Wrote (answer machine before h.packets) w x
           → Serves machine before new s u w x (Err fault.ReadFault)
       unfolding stops
-      served_fault mid new lt (inl read) same is =
+      served_fault mid new lt (inl read) same is w x wrote =
           let stands = again mid new same is in (
-            stops new stands [] (whole count) read refl,
-            within_if (stops_so new stands [] (whole count) read refl) tt,
+            stops new stands [] (whole count) read refl w x wrote,
+            within_if (stops_so new stands [] (whole count) read refl w x wrote) tt,
           )
-      served_fault mid new lt (inr (sender, p)) same is =
+      served_fault mid new lt (inr (sender, p)) same is w x wrote =
           let stands = again mid new same is in
           let ends = inside sender lt p in (
-            stops new stands p.bytes (cut count sender) p.read ends,
-            within_if (stops_so new stands p.bytes (cut count sender) p.read ends) tt,
+            stops new stands p.bytes (cut count sender) p.read ends w x wrote,
+            within_if (stops_so new stands p.bytes (cut count sender) p.read ends w x wrote) tt,
           )
 
+      pub served_cut : (mid new : Standing M) → count < most_packets
+          → Consumes t u [] ⊎ ((sender : ℕ) × PacketCut ((machine now.counter).nodes) sender t u)
+          → IsSame now mid → new ≡ forgetting machine mid
+          → (w x : SinkState) → Cut (answer machine before h.packets) w x
+          → ServedCut machine before new s u w x
+      served_cut mid new lt (inl read) same is =
+          stops_cut new (again mid new same is) [] (whole count) read refl
+      served_cut mid new lt (inr (sender, p)) same is =
+          stops_cut new (again mid new same is) p.bytes (cut count sender) p.read
+          (inside sender lt p)
+
+      -- a read or a write failed in a packet
+      pub served_stop : {K : Type 0} (told : K → SinkState) (Still : Type 0) (e : NodeFault)
+          (old end : Writer K) (w x : SinkState) (mid new : Standing M)
+          → PassesOn told Still (let r : Result Amount NodeFault = Err e in r) old end
+          → ((r : Result ℕ NodeFault) → Finishes told r old end
+          → Puts r (answer machine before h.packets) w x)
+          → count < most_packets
+          → Consumes t u [] ⊎ ((sender : ℕ) × PacketCut ((machine now.counter).nodes) sender t u)
+          → IsSame now mid → new ≡ forgetting machine mid
+          → Serves machine before new s u w x (Err e)
+      served_stop told Still fault.ReadFault old end w x mid new passes puts lt p same is =
+          served_fault mid new lt p same is w x (puts (Ok 0) passes)
+      served_stop told Still fault.WriteFault old end w x mid new passes puts lt p same is =
+          served_cut mid new lt p same is w x (puts (Err fault.WriteFault) passes.0)
+      served_stop told Still (fault.Cut a b) old end w x mid new passes puts lt p same is =
+          absurd passes
+      served_stop told Still fault.TooLong old end w x mid new passes puts lt p same is =
+          absurd passes
+
+      -- a write failed after the last packet that is answered
+      pub served_cut_last : Consumes t u [] → (w x : SinkState)
+          → Cut (answer machine before h.packets) w x
+          → ServedCut machine before now s u w x
+      served_cut_last read = stops_cut now h.stands [] (whole count) read refl
+
       pub served_beyond : (b : ℕ) → count ≡ most_packets → Consumes t u (b ∷ [])
+          → (w x : SinkState) → Wrote (answer machine before h.packets) w x
           → Serves machine before now s u w x (Err fault.TooLong)
       unfolding stops
-      served_beyond b e read = (
-        stops now h.stands (b ∷ []) beyond read (past b [] e),
+      served_beyond b e read w x wrote = (
+        stops now h.stands (b ∷ []) beyond read (past b [] e) w x wrote,
         λ rest.
             ap (packets_of size most_packets 0) (append_assoc h.bytes (b ∷ []) rest)
             ∙ all_of (b ∷ rest) beyond (past b rest e)
@@ -350,19 +352,22 @@ module _ {M : Type 0} (machine : M → Machine) where
       last e = ap (λ n. let p : Packets = record { cells = []; ending = whole n } in p) e
 
       pub served_full : count ≡ most_packets → Keeps t u → IsAtEnd u
+          → (w x : SinkState) → Wrote (answer machine before h.packets) w x
           → Serves machine before now s u w x (Ok most_packets)
       unfolding stops
-      served_full e keeps end =
+      served_full e keeps end w x wrote =
           let read = Consumes-kept t t u [] (Consumes-nil t) keeps in (
-            stops now h.stands [] (whole most_packets) read (last e),
-            stops_so now h.stands [] (whole most_packets) read (last e),
+            stops now h.stands [] (whole most_packets) read (last e) w x wrote,
+            stops_so now h.stands [] (whole most_packets) read (last e) w x wrote,
             end,
           )
 
-      pub served_lost : Keeps t u → Serves machine before now s u w x (Err fault.ReadFault)
+      pub served_lost : Keeps t u → (w x : SinkState)
+          → Wrote (answer machine before h.packets) w x
+          → Serves machine before now s u w x (Err fault.ReadFault)
       unfolding stops
-      served_lost keeps =
+      served_lost keeps w x wrote =
           let read = Consumes-kept t t u [] (Consumes-nil t) keeps in (
-            stops now h.stands [] (whole count) read refl,
-            within_if (stops_so now h.stands [] (whole count) read refl) tt,
+            stops now h.stands [] (whole count) read refl w x wrote,
+            within_if (stops_so now h.stands [] (whole count) read refl w x wrote) tt,
           )

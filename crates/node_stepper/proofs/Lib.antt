@@ -7,6 +7,7 @@ pub mod Settled
 pub mod Written
 pub mod Connected
 pub mod Fitting
+pub mod Gathered
 pub mod LossySteps
 pub mod Losses
 pub mod Heard

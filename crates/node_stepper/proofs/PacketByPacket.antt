@@ -1,10 +1,10 @@
 -- The cells of a packet, one after another.
-use Rattle.std.proofs.Common.{◌⊎◌, ◌≡◌, ◌≢◌, ℕ, suc, ◌+◌, ◌-◌, ◌<◌, ◌≤◌, inl, inr, Bool, true}
+use Rattle.std.proofs.Common.{◌⊎◌, ◌≡◌, ◌≢◌, ℕ, zero, suc, ◌+◌, ◌-◌, ◌<◌, ◌≤◌, inl, inr, Bool, true}
 use Rattle.std.proofs.Common.{false, List, [], ◌∷◌, ◌++◌, length, set, slice_index_or, Option, Some}
 use Rattle.std.proofs.Common.{None, Result, Ok, Err, refl, sym, ap, ◌∙◌, append_assoc, append-nil}
 use Rattle.std.proofs.Common.{length-append, subst, arith}
 use Rattle.std.specs.Io.KnownBytes.{Consumes}
-use Rattle.std.proofs.KnownBytes.{Consumes-trans}
+use Rattle.std.proofs.KnownBytes.{Consumes-nil, Consumes-trans}
 use Rattle.std.proofs.lemmas.Bool.{cases_eq, eq-eqb, ne_eqb}
 use Rattle.std.proofs.lemmas.List.{length_push, length-set, get_or-set_same, get_or-set_other}
 use Rattle.std.proofs.lemmas.List.{get_or_append_left, get_or-append-add}
@@ -12,17 +12,14 @@ use Rattle.std.proofs.lemmas.List.FromFn.{fill_by_all}
 use Rattle.sync_types.specs.States.{zero_state}
 use Rattle.construction.specs.Steps.{state_of}
 use Rattle.state_codec.specs.Reading.{read}
+use Rattle.node_stepper.specs.declared.faults.Amount.{Amount}
+use Rattle.node_stepper.specs.declared.faults.Amount.TheVariants as amounts
 use Rattle.node_stepper.specs.Packets.{cell_at, onto_cell, cells_of}
 use Rattle.machines.specs.Machines.{Machine}
 use Rattle.node_stepper.specs.Nodes.{Standing, own, heard_of, heard_in, state_after}
 use Rattle.node_stepper.specs.Nodes.{hearing, stepped, AllHeard}
-use Rattle.node_stepper.specs.Hearing.{IsSame, HeardCells, WholeCell, CellFed, PacketFed, PacketCut}
-
--- the packet's cells after others
-abbrev pub onto_cells : List (List ℕ) → Result (List (List ℕ) × List ℕ) ℕ
-    → Result (List (List ℕ) × List ℕ) ℕ
-onto_cells cells (Ok (more, behind)) = Ok (cells ++ more, behind)
-onto_cells cells (Err sender) = Err sender
+use Rattle.node_stepper.specs.Hearing.{IsSame, HeardCells, WholeCell, CellFed, CellsFed, PacketFed}
+use Rattle.node_stepper.specs.Hearing.{PacketCut, PacketHeard, onto_cells}
 
 onto_none : (r : Result (List (List ℕ) × List ℕ) ℕ) → onto_cells [] r ≡ r
 onto_none (Ok x) = refl
@@ -42,6 +39,14 @@ cells_next left count rest cell behind e = rw (cells_of, e) refl
 cells_cut : (left count : ℕ) (rest : List ℕ) → cell_at rest ≡ None
     → cells_of (suc left) count rest ≡ Err count
 cells_cut left count rest e = rw (cells_of, e) refl
+
+-- a whole cell has some bytes
+whole_some : (bytes cell : List ℕ)
+    → ((rest : List ℕ) → cell_at (bytes ++ rest) ≡ Some (cell, rest)) → 0 < length bytes
+whole_some [] cell is =
+    let e : cell_at [] ≡ Some (cell, []) = is [] in
+    absurd (cc)
+whole_some (b ∷ bytes) cell is = omega arith
 
 -- ---- one cell is heard
 
@@ -177,6 +182,24 @@ module _ {M : Type 0} (machine : M → Machine) where
             (sym (is ∙ rw (ne_eqb (length cells) mid.id apart) refl)) (heard_other apart)
       ]
 
+  -- hearing leaves the counter
+  counter_so : (mid : Standing M) (sender : ℕ) (cell : List ℕ)
+      → (hearing machine mid sender cell).counter ≡ mid.counter
+  counter_so mid sender cell = elim (cases_eq sender mid.id) [
+    | inl at ↦ rw (eq-eqb sender mid.id at) refl
+    | inr apart ↦ rw (ne_eqb sender mid.id apart) refl
+  ]
+
+  pub same_counter : (mid after : Standing M) (sender : ℕ) (cell : List ℕ)
+      → after ≡ hearing machine mid sender cell → after.counter ≡ mid.counter
+  same_counter mid after sender cell is =
+      subst (λ (e : Standing M). e.counter ≡ mid.counter) (sym is) (counter_so mid sender cell)
+
+  pub fed_counter : (mid after : Standing M) (sender : ℕ) (s t : Option (List ℕ))
+      → WholeCell machine [] sender mid after s t → after.counter ≡ mid.counter
+  fed_counter mid after sender s t (bytes, cell, read, is, heard) =
+      same_counter mid after sender cell heard
+
   -- nothing is heard yet
   pub heard_none : (before : Standing M) → length before.states ≡ (machine before.counter).nodes
       → length before.since ≡ (machine before.counter).nodes → HeardCells machine before before []
@@ -190,32 +213,21 @@ module _ {M : Type 0} (machine : M → Machine) where
 
   -- ---- the cells of a packet
 
-  -- so many cells of a packet were heard
-  pub record CellsFed (before now : Standing M) (s t : Option (List ℕ)) (count : ℕ) : Type 0 where
-    pub bytes : List ℕ
-    pub cells : List (List ℕ)
-    pub read : Consumes s t bytes
-    pub some : 0 < length bytes
-    pub short : count ≤ (machine before.counter).nodes
-    pub long : length cells ≡ count
-    pub cells_are : (rest : List ℕ) → cells_of ((machine before.counter).nodes) 0 (bytes ++ rest)
-        ≡ onto_cells cells (cells_of ((machine before.counter).nodes - count) count rest)
-    pub heard : HeardCells machine before now cells
-
   -- one more cell
-  pub cells_more : (E : Type 0) (before mid after : Standing M) (s t u : Option (List ℕ))
+  pub cells_more : (before mid after : Standing M) (s t u : Option (List ℕ))
       (count : ℕ)
-      → count < (machine before.counter).nodes → CellsFed before mid s t count
-      → CellFed machine [] count mid after t u (let r : Result Bool E = Ok true in r)
-      → CellsFed before after s u (count + 1)
-  cells_more E before mid after s t u count lt h (bytes, cell, read, is, heard) =
+      → count < (machine before.counter).nodes → CellsFed machine before mid s t count
+      → WholeCell machine [] count mid after t u
+      → CellsFed machine before after s u (count + 1)
+  cells_more before mid after s t u count lt h (bytes, cell, read, is, heard) =
       let nodes = (machine before.counter).nodes in
       let left : nodes - count ≡ suc (nodes - (count + 1)) = omega (arith, lt) in
       record {
         bytes = h.bytes ++ bytes;
         cells = h.cells ++ cell ∷ [];
         read = Consumes-trans s t u h.bytes bytes h.read read;
-        some = omega (arith, length-append h.bytes bytes, h.some);
+        some = λ _. omega (arith, length-append h.bytes bytes, whole_some bytes cell is);
+        none = λ e. absurd (omega (arith, e));
         short = omega (arith, lt);
         long = omega (arith, length_push h.cells cell, h.long);
         cells_are = λ rest.
@@ -227,37 +239,31 @@ module _ {M : Type 0} (machine : M → Machine) where
             (heard ∙ ap (λ n. hearing machine mid n cell) (sym h.long));
       }
 
-  -- the first cell
-  pub cells_first : (before after : Standing M) (s t : Option (List ℕ))
-      → 0 < (machine before.counter).nodes
+  -- none yet
+  pub cells_none : (before : Standing M) (s : Option (List ℕ))
       → length before.states ≡ (machine before.counter).nodes
-      → length before.since ≡ (machine before.counter).nodes
-      → WholeCell machine [] 0 before after s t → CellsFed before after s t 1
-  cells_first before after s t lt states marks ([], cell, fed, is, heard) =
-      let e : cell_at [] ≡ Some (cell, []) = is [] in
-      absurd (cc)
-  cells_first before after s t lt states marks (b ∷ bytes, cell, fed, is, heard) =
-      let nodes = (machine before.counter).nodes in
-      let left : nodes ≡ suc (nodes - 1) = omega (arith, lt) in
-      record {
-        bytes = b ∷ bytes;
-        cells = cell ∷ [];
-        read = fed;
-        some = omega arith;
-        short = omega (arith, lt);
-        long = refl;
-        cells_are = λ rest.
-            ap (λ n. cells_of n 0 (b ∷ (bytes ++ rest))) left
-            ∙ cells_next (nodes - 1) 0 (b ∷ (bytes ++ rest)) cell rest (is rest)
-            ∙ sym (onto_none (onto_cell cell (cells_of (nodes - 1) 1 rest)))
-            ∙ onto_one_more [] cell (cells_of (nodes - 1) 1 rest);
-        heard = heard_more before before [] cell (heard_none before states marks) lt after heard;
-      }
+      → length before.since ≡ (machine before.counter).nodes → CellsFed machine before before s s 0
+  cells_none before s states marks = record {
+    bytes = [];
+    cells = [];
+    read = Consumes-nil s;
+    some = λ lt. absurd (omega (arith, lt));
+    none = λ _. (refl, refl);
+    short = omega arith;
+    long = refl;
+    cells_are = λ rest.
+        let all : (machine before.counter).nodes - 0 ≡ (machine before.counter).nodes =
+        omega arith in
+        rw all (sym (onto_none (cells_of ((machine before.counter).nodes) 0 rest)));
+    heard = heard_none before states marks;
+  }
 
   -- all cells
   cells_all : (before now : Standing M) (s t : Option (List ℕ))
-      → CellsFed before now s t ((machine before.counter).nodes) → PacketFed machine before now s t
-  cells_all before now s t h =
+      → 0 < (machine before.counter).nodes
+      → CellsFed machine before now s t ((machine before.counter).nodes)
+      → PacketFed machine before now s t
+  cells_all before now s t node h =
       let nodes = (machine before.counter).nodes in
       let none_left : nodes - nodes ≡ 0 = omega arith in
       record {
@@ -268,30 +274,56 @@ module _ {M : Type 0} (machine : M → Machine) where
             h.cells_are rest ∙ ap (onto_cells h.cells) (ap (λ n. cells_of n nodes rest) none_left)
             ∙ ap (λ l. let r : Result (List (List ℕ) × List ℕ) ℕ = Ok (l, rest) in r)
             (append-nil h.cells);
-        some = h.some;
+        some = h.some node;
         size = h.long;
         heard = h.heard;
       }
 
   pub cells_whole : (before now : Standing M) (s t : Option (List ℕ)) (count : ℕ)
-      → count ≡ (machine before.counter).nodes → CellsFed before now s t count
-      → PacketFed machine before now s t
-  cells_whole before now s t count full h = cells_all before now s t (rw (← full) h)
+      → 0 < (machine before.counter).nodes → count ≡ (machine before.counter).nodes
+      → CellsFed machine before now s t count → PacketFed machine before now s t
+  cells_whole before now s t count node full h = cells_all before now s t node (rw (← full) h)
 
-  -- the input ended, or a read failed, inside a cell
+  -- the input ended, or a call failed, inside a cell
   pub cells_end : (before now : Standing M) (s t u : Option (List ℕ)) (count : ℕ) (bytes : List ℕ)
-      → count < (machine before.counter).nodes → CellsFed before now s t count → Consumes t u bytes
+      → 0 < count → count < (machine before.counter).nodes → CellsFed machine before now s t count
+      → Consumes t u bytes
       → cell_at bytes ≡ None → PacketCut ((machine before.counter).nodes) count s u
-  cells_end before now s t u count bytes lt h read none =
+  cells_end before now s t u count bytes first lt h read none =
       let nodes = (machine before.counter).nodes in
       let left : nodes - count ≡ suc (nodes - (count + 1)) = omega (arith, lt) in
       record {
         bytes = h.bytes ++ bytes;
         read = Consumes-trans s t u h.bytes bytes h.read read;
-        some = omega (arith, length-append h.bytes bytes, h.some);
+        some = omega (arith, length-append h.bytes bytes, h.some first);
         cut = h.cells_are bytes ∙ ap (onto_cells h.cells) (ap (λ n. cells_of n count bytes) left
             ∙ cells_cut (nodes - (count + 1)) count bytes none);
       }
+
+  -- nothing more was read
+  pub cells_stop : (before now : Standing M) (s t : Option (List ℕ)) (count : ℕ)
+      → count < (machine before.counter).nodes → CellsFed machine before now s t count
+      → (Consumes s t [] ⊎ ((sender : ℕ)
+      × PacketCut ((machine before.counter).nodes) sender s t)) × IsSame before now
+  cells_stop before now s t zero lt h =
+      (inl (rw (h.none refl).1 (Consumes-nil s)), h.heard.same)
+  cells_stop before now s t (suc count) lt h = (
+    inr (
+      suc count,
+      cells_end before now s t t (suc count) [] (omega arith) lt h (Consumes-nil t)
+          refl,
+    ),
+    h.heard.same,
+  )
+
+  -- what was heard of a packet does not hang on how a call fails
+  pub heard_so : (E F : Type 0) (before after : Standing M) (s t : Option (List ℕ))
+      (amount : Amount)
+      → PacketHeard machine before after s t (let r : Result Amount E = Ok amount in r)
+      → PacketHeard machine before after s t (let r : Result Amount F = Ok amount in r)
+  heard_so E F before after s t amounts.Whole h = h
+  heard_so E F before after s t (amounts.Cut sender) h = h
+  heard_so E F before after s t amounts.Nothing h = h
 
   -- ---- a packet that was heard
 

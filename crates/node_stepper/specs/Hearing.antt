@@ -1,6 +1,6 @@
 -- What reading and hearing cells and packets did.
-use Rattle.std.specs.Prelude.{◌≡◌, ◌≢◌, ℕ, ◌<◌, Bool, true, false, List, [], ◌++◌, length}
-use Rattle.std.specs.Prelude.{slice_index_or, Option, Some, None, ◌⊎◌, Result, Ok, Err}
+use Rattle.std.specs.Prelude.{◌≡◌, ◌≢◌, ℕ, ◌-◌, ◌<◌, ◌≤◌, Bool, true, false, List, [], ◌++◌}
+use Rattle.std.specs.Prelude.{length, slice_index_or, Option, Some, None, ◌⊎◌, Result, Ok, Err}
 use Rattle.std.specs.Io.KnownBytes.{Consumes, IsAtEnd}
 use Rattle.construction.specs.Steps.{state_of}
 use Rattle.state_codec.specs.Reading.{read}
@@ -23,7 +23,13 @@ meets_end amount.Whole = false
 meets_end (amount.Cut sender) = true
 meets_end amount.Nothing = true
 
--- the input ended, or a read failed, inside a packet
+-- the packet's cells after others
+abbrev pub onto_cells : List (List ℕ) → Result (List (List ℕ) × List ℕ) ℕ
+    → Result (List (List ℕ) × List ℕ) ℕ
+onto_cells cells (Ok (more, behind)) = Ok (cells ++ more, behind)
+onto_cells cells (Err sender) = Err sender
+
+-- the input ended, or a call failed, inside a packet
 pub record PacketCut (nodes sender : ℕ) (old new : Option (List ℕ)) : Type 0 where
   pub bytes : List ℕ
   pub read : Consumes old new bytes
@@ -76,6 +82,20 @@ module _ {M : Type 0} (machine : M → Machine) where
     pub since : (u : ℕ) → u < length cells → u ≢ before.id
         → slice_index_or after.since u false ≡ true
 
+  -- So many cells of a packet were heard, the first ones. These bytes were read, some if there was
+  -- a cell, and nothing was touched if there was none.
+  pub record CellsFed (before now : Standing M) (s t : Option (List ℕ)) (count : ℕ) : Type 0 where
+    pub bytes : List ℕ
+    pub cells : List (List ℕ)
+    pub read : Consumes s t bytes
+    pub some : 0 < count → 0 < length bytes
+    pub none : count ≡ 0 → (now ≡ before) × (t ≡ s)
+    pub short : count ≤ (machine before.counter).nodes
+    pub long : length cells ≡ count
+    pub cells_are : (rest : List ℕ) → cells_of ((machine before.counter).nodes) 0 (bytes ++ rest)
+        ≡ onto_cells cells (cells_of ((machine before.counter).nodes - count) count rest)
+    pub heard : HeardCells before now cells
+
   -- a packet was read, and heard
   pub record PacketFed (before after : Standing M) (old new : Option (List ℕ)) : Type 0 where
     pub bytes : List ℕ
@@ -109,3 +129,10 @@ module _ {M : Type 0} (machine : M → Machine) where
       → Result Amount E → Type 0
   FirstHeard before after old new =
       HeardTo (WholeCell [] 0 before after old new) before after old new
+
+  -- what hearing the cells of a packet from this one on did, if those before it were heard
+  abbrev pub HearsFrom : {E : Type 0} → (now after : Standing M) → (old new : Option (List ℕ))
+      → (first : ℕ) → Result Amount E → Type 0
+  HearsFrom now after old new first result =
+      (before : Standing M) → (start : Option (List ℕ)) → CellsFed before now start old first
+      → PacketHeard before after start new result

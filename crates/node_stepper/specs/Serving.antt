@@ -4,7 +4,12 @@ use Rattle.std.specs.Io.KnownBytes.{Consumes, IsAtEnd}
 use Rattle.texts.specs.Causes.{Counted}
 use Rattle.texts.specs.Growth.{SinkState, Wrote, Cut}
 use Rattle.texts.specs.Pending.{AllButLast}
+use Rattle.edge_io.specs.Gathering.{held}
+use Rattle.edge_io.specs.Writing.{Writes, Finishes}
+use Rattle.edge_io.specs.declared.writer.Writer.{Writer}
 use Rattle.machines.specs.Machines.{Machine}
+use Rattle.node_stepper.specs.declared.faults.Amount.{Amount}
+use Rattle.node_stepper.specs.declared.faults.Amount.TheVariants as amount
 use Rattle.node_stepper.specs.declared.faults.NodeFault.{NodeFault}
 use Rattle.node_stepper.specs.declared.faults.NodeFault.TheVariants as fault
 use Rattle.node_stepper.specs.Packets.{packets_of, Packets, IsWithin, whole, cut, beyond}
@@ -48,24 +53,12 @@ module _ {M : Type 0} (machine : M → Machine) where
       pub wrote : Wrote (answer (served bytes).cells) s t
       pub stands : StandsBehind before after (served bytes).cells
 
-    -- All cells but the last were written, and that one was cut. The bytes end with its packet: no
-    -- packet was read before the cells of those before it were written.
-    pub record LastCut (bytes : List ℕ) (s t : SinkState) : Type 0 where
-      pub done : List (List (List ℕ))
-      pub packet : List (List ℕ)
-      pub mid : SinkState
-      pub count : ℕ
-      pub are : served bytes ≡ record { cells = done ++ packet ∷ []; ending = whole count }
-      pub wrote : Wrote (answer done) s mid
-      pub last : Cut (cell_behind (done ++ packet ∷ [])) mid t
-
     -- these bytes were read, and what was written is cut, whatever may follow
     pub record ServedCut (after : Standing M) (old new : Option (List ℕ)) (s t : SinkState) : Type 0
       where
         pub bytes : List ℕ
         pub read : Consumes old new bytes
         pub cut : (rest : List ℕ) → Cut (answer (served (bytes ++ rest)).cells) s t
-        pub late : (bytes ≡ []) ⊎ LastCut bytes s t
         pub stands : StandsBehind before after (served bytes).cells
 
     -- What serving did. `TooLong` is answered at the first byte of packet 1,000,001, and a read
@@ -84,6 +77,24 @@ module _ {M : Type 0} (machine : M → Machine) where
     Serves after old new s t (Err fault.ReadFault) =
         (d : Served after old new s t) × ServicePending d.bytes
     Serves after old new s t (Err fault.WriteFault) = ServedCut after old new s t
+
+-- a writer passed on all that it held
+abbrev pub EndsWell : {K : Type 0} → (told : K → SinkState) → (old new : Writer K) → Type 0
+EndsWell told old new = Finishes told (let r : Result ℕ NodeFault = Ok 0 in r) old new
+
+-- What hearing a packet did to the writer of the cells. Nothing is held back any more if anything was
+-- asked of the source (`Still` says that nothing was), and before each answer but a packet.
+abbrev pub PassesOn : {K : Type 0} → (told : K → SinkState) → (Still : Type 0)
+    → Result Amount NodeFault → (old new : Writer K) → Type 0
+PassesOn told Still (Ok amount.Whole) old new =
+    Writes told [] old new × (Still ⊎ (held new ≡ []))
+PassesOn told Still (Ok (amount.Cut sender)) old new = EndsWell told old new
+PassesOn told Still (Ok amount.Nothing) old new = EndsWell told old new
+PassesOn told Still (Err fault.ReadFault) old new = EndsWell told old new
+PassesOn told Still (Err fault.WriteFault) old new =
+    Finishes told (let r : Result ℕ NodeFault = Err fault.WriteFault in r) old new × Still
+PassesOn told Still (Err (fault.Cut packet sender)) old new = ⊥
+PassesOn told Still (Err fault.TooLong) old new = ⊥
 
 -- only a read fault is counted; `Dry` holds after it
 abbrev pub HasServeCause : {V : Type 0} → (before now : ℕ) → (Dry : Type 0) → Result V NodeFault

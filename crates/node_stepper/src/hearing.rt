@@ -1,17 +1,18 @@
-use crate::NodeEngine;
 use crate::faults::Amount;
-use edge_io::{Feed, ReadFault, Source, skip_bytes, take_bytes};
+use crate::{NodeEngine, NodeFault};
+use edge_io::{Feed, ReadFault, Sink, Source, WriteFault, Writer, skip_bytes, take_bytes};
 use machines::Machine;
 
 /// How many bytes a state has at most.
 const MOST_BYTES: usize = 128;
 
 impl<M: Machine> NodeEngine<M> {
-    ghost use Rattle.std.specs.Prelude.{◌≡◌, ◌<◌, ◌||◌, true, false, not, [], ◌∷◌, OnErr, IfOk};
+    ghost use Rattle.std.specs.Prelude.{◌≡◌, ◌<◌, ◌≤◌, ◌||◌, true, false, not, [], ◌∷◌, OnErr, IfOk};
     ghost use Rattle.texts.specs.Causes.{HasCause};
     ghost use Rattle.edge_io.specs.Feeds.{feed_left, IsDry};
     ghost use Rattle.node_stepper.specs.Hearing.{BodyFed, WholeCell, CellFed, FirstHeard};
-    ghost use Rattle.node_stepper.specs.Hearing.{PacketHeard, meets_end};
+    ghost use Rattle.node_stepper.specs.Hearing.{PacketHeard, CellsFed, HearsFrom, meets_end};
+    ghost use Rattle.node_stepper.specs.Serving.{HasServeCause, PassesOn};
 
     /// Hears the bytes of a cell, of which there are to be so many. Bytes that are not exactly as
     /// many as a state of that node has are not kept.
@@ -156,15 +157,33 @@ impl<M: Machine> NodeEngine<M> {
         }
     }
 
-    /// Hears the cells of a packet.
-    pub(crate) fn hear_packet<S: Source>(
+    /// Hears the first cells of a packet, as many as stand whole in the buffer, and answers how
+    /// many these were. Nothing is asked of the source.
+    fn hear_held_cells<S: Source>(&mut self, feed: &mut Feed<'_, S>) -> u32
+        ensures source { feed.new.source ≡ feed.old.source }
+        ensures cells { CellsFed M.machine self.old self.new
+            (feed_left S.left feed.old) (feed_left S.left feed.new) result }
+    {
+        let nodes = self.nodes();
+        for sender in 0..nodes {
+            if !self.hear_held(feed, sender) {
+                return sender;
+            }
+        }
+        nodes
+    }
+
+    /// Hears the cells of a packet from that of a node on, which is not the first.
+    fn hear_cells_from<S: Source>(
         &mut self,
         feed: &mut Feed<'_, S>,
+        first: u32,
     ) -> Result<Amount, ReadFault>
+        requires some { 0 < first }
+        requires within { first ≤ (M.machine self.old.counter).nodes }
         ensures same_reference { feed.new.source.ghost_name ≡ feed.old.source.ghost_name }
-        ensures node { self.old.id < (M.machine self.old.counter).nodes }
-        ensures packet { PacketHeard M.machine self.old self.new
-            (feed_left S.left feed.old) (feed_left S.left feed.new) result }
+        ensures packet { HearsFrom M.machine self.old self.new
+            (feed_left S.left feed.old) (feed_left S.left feed.new) first result }
         ensures cause { HasCause (S.faults feed.old.source.now)
             (S.faults feed.new.source.now) result }
         ensures met { IfOk result (λ amount. S.met feed.new.source.now
@@ -172,12 +191,7 @@ impl<M: Machine> NodeEngine<M> {
         ensures dry { OnErr result (IsDry S.met feed.old feed.new) }
     {
         let nodes = self.nodes();
-        match self.hear_first(feed) {
-            Ok(Amount::Whole) => {}
-            Ok(less) => return Ok(less),
-            Err(ReadFault) => return Err(ReadFault),
-        }
-        for sender in 1..nodes {
+        for sender in first..nodes {
             match self.hear_cell(feed, sender) {
                 Ok(true) => {}
                 Ok(false) => return Ok(Amount::Cut(sender)),
@@ -185,5 +199,63 @@ impl<M: Machine> NodeEngine<M> {
             }
         }
         Ok(Amount::Whole)
+    }
+
+    /// Hears the cells of a packet behind the first ones, which were heard.
+    fn hear_rest_of_packet<S: Source>(
+        &mut self,
+        feed: &mut Feed<'_, S>,
+        heard: u32,
+    ) -> Result<Amount, ReadFault>
+        requires { heard < (M.machine self.old.counter).nodes }
+        ensures same_reference { feed.new.source.ghost_name ≡ feed.old.source.ghost_name }
+        ensures packet { HearsFrom M.machine self.old self.new
+            (feed_left S.left feed.old) (feed_left S.left feed.new) heard result }
+        ensures cause { HasCause (S.faults feed.old.source.now)
+            (S.faults feed.new.source.now) result }
+        ensures met { IfOk result (λ amount. S.met feed.new.source.now
+            ≡ (meets_end amount || S.met feed.old.source.now)) }
+        ensures dry { OnErr result (IsDry S.met feed.old feed.new) }
+    {
+        if heard > 0 {
+            return self.hear_cells_from(feed, heard);
+        }
+        match self.hear_first(feed) {
+            Ok(Amount::Whole) => self.hear_cells_from(feed, 1),
+            Ok(less) => Ok(less),
+            Err(ReadFault) => Err(ReadFault),
+        }
+    }
+
+    /// Hears the cells of a packet. If they do not all stand in the buffer, the writer passes on
+    /// what it holds before anything is asked of the source; if a write failed, nothing is.
+    pub(crate) fn hear_packet<S: Source, K: Sink>(
+        &mut self,
+        feed: &mut Feed<'_, S>,
+        writer: &mut Writer<'_, K>,
+    ) -> Result<Amount, NodeFault>
+        ensures same_reference { feed.new.source.ghost_name ≡ feed.old.source.ghost_name }
+        ensures node { self.old.id < (M.machine self.old.counter).nodes }
+        ensures packet { PacketHeard M.machine self.old self.new
+            (feed_left S.left feed.old) (feed_left S.left feed.new) result }
+        ensures cause { HasServeCause (S.faults feed.old.source.now)
+            (S.faults feed.new.source.now) (IsDry S.met feed.old feed.new) result }
+        ensures met { IfOk result (λ amount. S.met feed.new.source.now
+            ≡ (meets_end amount || S.met feed.old.source.now)) }
+        ensures passes_on { PassesOn K.told (feed.new.source ≡ feed.old.source) result
+            writer.old writer.new }
+    {
+        let heard = self.hear_held_cells(feed);
+        if heard == self.nodes() {
+            return Ok(Amount::Whole);
+        }
+        match writer.finish() {
+            Ok(()) => {}
+            Err(WriteFault) => return Err(NodeFault::WriteFault),
+        }
+        match self.hear_rest_of_packet(feed, heard) {
+            Ok(amount) => Ok(amount),
+            Err(ReadFault) => Err(NodeFault::ReadFault),
+        }
     }
 }

@@ -1,6 +1,6 @@
 use crate::faults::Amount;
 use crate::{NodeEngine, NodeFault};
-use edge_io::{Feed, ReadFault, Sink, Source, WriteFault, put_all};
+use edge_io::{Feed, ReadFault, Sink, Source, WriteFault, Writer};
 use machines::Machine;
 
 /// How many bytes a cell of a state has at most.
@@ -11,7 +11,7 @@ const MOST_PACKETS: u64 = 1_000_000;
 
 impl<M: Machine> NodeEngine<M> {
     ghost use Rattle.std.specs.Prelude.{◌≡◌, ◌≤◌, length, take};
-    ghost use Rattle.texts.specs.Growth.{Puts};
+    ghost use Rattle.edge_io.specs.Writing.{Writes};
     ghost use Rattle.state_codec.specs.Shapes.{bytes_in};
     ghost use Rattle.state_codec.specs.Writing.{written};
     ghost use Rattle.edge_io.specs.Feeds.{feed_left, IsDry};
@@ -43,18 +43,19 @@ impl<M: Machine> NodeEngine<M> {
     }
 
     /// Writes the cell of its own state.
-    fn put_cell<K: Sink>(&self, sink: &mut K) -> Result<(), WriteFault>
-        ensures { Puts result (state_cell (M.machine self.now.counter) self.now.id (own self.now))
-            (K.told sink.old) (K.told sink.new) }
+    fn put_cell<K: Sink>(&self, writer: &mut Writer<'_, K>)
+        ensures { Writes K.told (state_cell (M.machine self.now.counter) self.now.id (own self.now))
+            writer.old writer.new }
     {
         let mut room = [0; LONGEST_CELL];
         let size = self.write_cell(&mut room);
-        put_all(sink, &room[..size])
+        writer.text(&room[..size]);
     }
 
     /// Writes the cell of its state, and then hears packets, and writes the cell of its new state
-    /// after each: the answer is how many these were. What was heard before is forgotten. Each cell
-    /// is written before any byte after its packet is read of the feed.
+    /// after each: the answer is how many these were. What was heard before is forgotten. Cells are
+    /// held back while the feed's buffer holds a whole packet: each one is written before anything
+    /// more is asked of the source, and before the answer.
     ///
     /// `Cut` comes if the input ends inside a packet, and `TooLong` at the first byte of packet
     /// 1,000,001. `ReadFault` and `WriteFault` come only if the source, or the sink, counted one
@@ -73,28 +74,27 @@ impl<M: Machine> NodeEngine<M> {
             (S.faults feed.new.source.now) (IsDry S.met feed.old feed.new) result }
     {
         self.forget();
-        match self.put_cell(sink) {
-            Ok(()) => {}
-            Err(WriteFault) => return Err(NodeFault::WriteFault),
-        }
+        let mut writer = Writer::new(sink);
+        self.put_cell(&mut writer);
         for packet in 0..MOST_PACKETS {
-            match self.hear_packet(feed) {
+            match self.hear_packet(feed, &mut writer) {
                 Ok(Amount::Whole) => {}
                 Ok(Amount::Nothing) => return Ok(packet),
                 Ok(Amount::Cut(sender)) => {
                     self.forget();
                     return Err(NodeFault::Cut { packet, sender });
                 }
-                Err(ReadFault) => {
+                Err(fault) => {
                     self.forget();
-                    return Err(NodeFault::ReadFault);
+                    return Err(fault);
                 }
             }
             self.packet();
-            match self.put_cell(sink) {
-                Ok(()) => {}
-                Err(WriteFault) => return Err(NodeFault::WriteFault),
-            }
+            self.put_cell(&mut writer);
+        }
+        match writer.finish() {
+            Ok(()) => {}
+            Err(WriteFault) => return Err(NodeFault::WriteFault),
         }
         match feed.byte() {
             Ok(None) => Ok(MOST_PACKETS),

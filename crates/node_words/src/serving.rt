@@ -32,7 +32,8 @@ fn engine_of<C: Construction>(
 }
 
 /// Reads a header, and then packets, and writes the node's cell at the start and after each whole
-/// packet: the answer is how many these were. Each cell is written before it reads on.
+/// packet: the answer is how many these were. Each cell is written before more is asked of the
+/// source.
 ///
 /// `Refused` is the first line of the header that fails, and the line that says so was written.
 /// `Cut` comes exactly if the input ends inside a packet, and `TooLong` if no line was refused

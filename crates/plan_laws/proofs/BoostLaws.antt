@@ -16,10 +16,11 @@ use Rattle.construction.specs.Plans.{Level, group_size, span_of}
 use Rattle.construction.specs.PhaseKing.{up}
 use Rattle.construction.specs.Votes.{block}
 use Rattle.counter_core.specs.Meanings.{Meaning, cut}
-use Rattle.counter_core.specs.Laws.{Sizes, StaysInRange, IgnoresFurther}
+use Rattle.counter_core.specs.Laws.{Sizes, LowsAreWithin, StaysInRange, IgnoresFurther}
 use Rattle.construction.specs.Steps.{with_register}
 use Rattle.construction.proofs.Blocks.{length-block, All-block}
-use Rattle.plan_laws.specs.Boosted.{level_register, inner_state, boosted, BoostedRange, StandsOn}
+use Rattle.plan_laws.specs.Boosted.{level_register, inner_state, boosted, boosted_low, BoostedRange}
+use Rattle.plan_laws.specs.Boosted.{StandsOn}
 
 -- ---- values and lists
 
@@ -108,14 +109,17 @@ module _ (a : Meaning) (in_range : State → Type 0) (level : Level) (sizes : Si
         modulus = on.most_modulus;
         bound = let b = sizes.bound in omega arith;
         shallow = let d = sizes.shallow in omega arith;
-        low = λ v lt. cond_both (nat_lt v (level.blocks * a.nodes)) (a.low (v % a.nodes))
-            (a.depth + 1) (λ l. l ≤ a.depth + 1)
-            (λ e. let p = place_in_block v (ltb-true _ _ e) in
-            let h = sizes.low (v % a.nodes) p.1 in omega arith) (λ e. omega arith);
         shown = λ v s lt r. some_below (register_at a.depth s).a level.modulus on.least_modulus r.1;
         deep = λ v heard lt e. length_push (inner_state a level v heard).registers
             (level_register a level v heard) ∙ ap (λ n. n + 1) (deep_inner v heard e);
       }
+
+  pub boosted_lows : (low : ℕ → ℕ) → LowsAreWithin a low
+      → LowsAreWithin (boosted a level) (boosted_low a level low)
+  boosted_lows low within v lt = cond_both (nat_lt v (level.blocks * a.nodes)) (low (v % a.nodes))
+      (a.depth + 1) (λ l. l ≤ a.depth + 1)
+      (λ e. let p = place_in_block v (ltb-true _ _ e) in
+      let h = within (v % a.nodes) p.1 in omega arith) (λ e. omega arith)
 
   pub boosted_stays_in_range : 2 ≤ level.modulus → StaysInRange a in_range
       → IgnoresFurther a in_range → in_range (zero_state a.depth)

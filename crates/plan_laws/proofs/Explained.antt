@@ -10,7 +10,7 @@ use Rattle.std.proofs.lemmas.List.FromFn.{fill_by_all}
 use Rattle.sync_types.specs.declared.states.Reg.{Reg}
 use Rattle.sync_types.specs.States.{State, zero_state, register_at}
 use Rattle.construction.specs.Plans.{Level, group_size, nodes_of, faults_of, modulus_of, bound_of}
-use Rattle.construction.specs.Plans.{span_of, low_of}
+use Rattle.construction.specs.Plans.{span_of}
 use Rattle.construction.specs.Shown.{shown}
 use Rattle.construction.specs.Votes.{block}
 use Rattle.construction.specs.Steps.{state_of, register_after, new_register, with_register, step_in}
@@ -27,7 +27,6 @@ pub record Explains (m : Meaning) (base : ℕ) (levels : List Level) : Type 0 wh
   pub modulus : m.modulus ≡ modulus_of base levels
   pub bound : m.bound ≡ bound_of levels
   pub depth : m.depth ≡ length levels
-  pub low : (v : ℕ) → m.low v ≡ low_of levels v
   pub shows : (v : ℕ) (s : State) → m.shows v s ≡ shown (length levels) s
   pub next : (v : ℕ) (heard : List State) → length heard ≡ nodes_of levels
       → m.next v heard ≡ step_in base levels v heard
@@ -81,14 +80,6 @@ module _ (m : Meaning) (base : ℕ) (level : Level) (below : List Level) (e : Ex
         (length-block level.blocks n (v / n) heard (omega arith)
         (div_below v n level.blocks (block_some level.blocks n v lt) lt))))
 
-    more_low : (v : ℕ)
-        → cond (nat_lt v (level.blocks * m.nodes)) (m.low (v % m.nodes)) (m.depth + 1) ≡ low_of
-        (level ∷ below) v
-    more_low v =
-        ap (λ n. cond (nat_lt v (level.blocks * n)) (m.low (v % n)) (m.depth + 1)) e.nodes
-        ∙ ap₂ (λ l d. cond (nat_lt v (level.blocks * nodes_of below)) l (d + 1))
-        (e.low (v % nodes_of below)) e.depth
-
     pub explains_more : Explains (boosted m level) base (level ∷ below)
     explains_more = record {
       nodes = ap (group_size level) e.nodes;
@@ -96,7 +87,6 @@ module _ (m : Meaning) (base : ℕ) (level : Level) (below : List Level) (e : Ex
       modulus = refl;
       bound = ap (λ t. t + span_of level) e.bound;
       depth = omega (arith, e.depth);
-      low = more_low;
       shows = λ v s. ap (λ d. unwrap_or (register_at d s).a 0) e.depth;
       next =
           λ v heard size. ap₂ with_register (inner_step v heard size) (top_register v heard size);
@@ -110,7 +100,6 @@ explains base [] =
       modulus = refl;
       bound = refl;
       depth = refl;
-      low = λ v. refl;
       shows = λ v s. refl;
       next = λ v heard size. refl;
     }

@@ -3,7 +3,7 @@ use Rattle.std.proofs.Common.{ℕ, ◌*◌, ◌<◌, ◌≤◌, List, [], ◌∷
 use Rattle.std.proofs.Common.{unwrap_or, IfSome, arith}
 use Rattle.std.proofs.Math.Nat.{mul-le-mul_right}
 use Rattle.sync_types.specs.States.{State, zero_state, register_at}
-use Rattle.construction.specs.Plans.{Level, Plan, nodes_of, plan_depth, modulus_of}
+use Rattle.construction.specs.Plans.{Level, Plan, nodes_of, plan_depth, plan_low, modulus_of}
 use Rattle.construction.specs.Shown.{shown}
 use Rattle.construction.specs.Steps.{step_of}
 use Rattle.construction.proofs.Ranges.{ArePositive, length-step_in, low_most, zero_at}
@@ -11,7 +11,7 @@ use Rattle.construction.proofs.Ranges.{step_is_state}
 use Rattle.plan_numbers.specs.Numbers.{below_of}
 use Rattle.plan_numbers.specs.Premises.{LevelsAccepted, IsAccepted}
 use Rattle.plan_numbers.proofs.Accepted.{accepted_sized, meets}
-use Rattle.counter_core.specs.Laws.{Sizes, StaysInRange, IgnoresFurther}
+use Rattle.counter_core.specs.Laws.{Sizes, LowsAreWithin, StaysInRange, IgnoresFurther}
 use Rattle.plan_laws.specs.PlanMeaning.{plan_meaning, InRange, IsInRange}
 use Rattle.plan_laws.proofs.Ranges.{range_of_cut, range_from_cut, shown_of_cut, range_of_state}
 use Rattle.plan_laws.proofs.Ranges.{step_of-cut}
@@ -65,10 +65,12 @@ module _ (plan : Plan) (accepted : IsAccepted plan) where
         modulus = sized.most_modulus;
         bound = sized.bound;
         shallow = shallow plan.base plan.levels accepted.levels;
-        low = λ v lt. low_most plan.levels v;
         shown = λ v s lt range. shown_below plan.base plan.levels some.1 s range.x range.values;
         deep = λ v heard lt size. length-step_in plan.base plan.levels v heard;
       }
+
+  pub plan_lows : LowsAreWithin (plan_meaning plan) (plan_low plan)
+  plan_lows v lt = low_most plan.levels v
 
   pub plan_stays : StaysInRange (plan_meaning plan) (IsInRange plan)
   plan_stays v heard lt size range =

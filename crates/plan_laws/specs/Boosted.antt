@@ -44,12 +44,16 @@ boosted below level = record {
   modulus = level.modulus;
   bound = below.bound + span_of level;
   depth = below.depth + 1;
-  low = λ v. if nat_lt v (level.blocks * below.nodes) then below.low (v % below.nodes)
-      else below.depth + 1;
   shows = λ v s. unwrap_or (register_at below.depth s).a 0;
   next = λ v heard. with_register (inner_state below level v heard)
       (level_register below level v heard);
 }
+
+-- The lowest level in which its node at a place takes part: that of the block's node, or for a spare
+-- this level.
+abbrev pub boosted_low : (below : Meaning) → Level → (low : ℕ → ℕ) → (v : ℕ) → ℕ
+boosted_low below level low v =
+    if nat_lt v (level.blocks * below.nodes) then low (v % below.nodes) else below.depth + 1
 
 -- in range below, and a finite value of the next register is below the modulus
 abbrev pub BoostedRange : (in_range : State → Type 0) (depth modulus : ℕ) → State → Type 0

@@ -1,25 +1,13 @@
--- What a plan means as one counter: its numbers, what its states show at the top, and the step of
--- the construction.
+-- What a plan means as one counter: its machine.
 use Rattle.std.specs.Prelude.{⊤, ℕ, ◌<◌, List, [], ◌∷◌, length, IfSome}
 use Rattle.sync_types.specs.States.{State, register_at}
-use Rattle.construction.specs.Plans.{Level, Plan, plan_nodes, plan_faults, plan_modulus, plan_bound}
-use Rattle.construction.specs.Plans.{plan_depth, plan_low}
-use Rattle.construction.specs.Shown.{shown}
-use Rattle.construction.specs.Steps.{step_of}
+use Rattle.construction.specs.Plans.{Level, Plan}
+use Rattle.construction.specs.Runs.{machine_of}
 use Rattle.counter_core.specs.Meanings.{Meaning}
 
 -- the counter of a plan
 abbrev pub plan_meaning : Plan → Meaning
-plan_meaning plan = record {
-  nodes = plan_nodes plan;
-  faults = plan_faults plan;
-  modulus = plan_modulus plan;
-  bound = plan_bound plan;
-  depth = plan_depth plan;
-  low = plan_low plan;
-  shows = λ v state. shown (plan_depth plan) state;
-  next = step_of plan;
-}
+plan_meaning plan = machine_of plan
 
 -- each finite value is below its level's modulus
 abbrev pub InRange : List Level → State → Type 0

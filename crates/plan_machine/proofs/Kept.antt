@@ -1,5 +1,5 @@
 -- What the shape and the tower of a plan give is what its machine says.
-use Rattle.std.proofs.Common.{◌≡◌, ℕ, zero, suc, ◌-◌, ◌<◌, ◌≤◌, List, [], ◌∷◌, length, get_or}
+use Rattle.std.proofs.Common.{◌≡◌, ℕ, ◌-◌, ◌<◌, ◌≤◌, List, [], ◌∷◌, length}
 use Rattle.std.proofs.Common.{Option, Some, None, All, refl, ap, ◌∙◌, subst, arith}
 use Rattle.std.specs.Prelude.{SomeIff}
 use Rattle.sync_types.specs.States.{State, zero_state}
@@ -9,12 +9,13 @@ use Rattle.construction.specs.Runs.{IsState}
 use Rattle.plan_laws.specs.PlanMeaning.{IsInRange}
 use Rattle.plan_laws.proofs.PlanCounter.{positive}
 use Rattle.counter_core.proofs.StateLists.{within}
-use Rattle.plan_laws.proofs.Ranges.{range_of_state}
+use Rattle.plan_laws.proofs.Ranges.{range_of_state, range_from_cut}
 use Rattle.state_codec.specs.Shapes.{Shape, shape_of, fields_at, moduli_of, shape_nodes}
 use Rattle.state_codec.specs.Ranges.{InRange}
 use Rattle.state_codec.proofs.Plans.{depth_of_shape, nodes_of_shape}
 use Rattle.state_codec.proofs.PlanStates.{state_of_node}
-use Rattle.machines.specs.Machines.{IsConfiguration}
+use Rattle.counter_core.specs.Meanings.{cut}
+use Rattle.machines.specs.Machines.{IsFront, AreFronts}
 use Rattle.plan_machine.specs.PlanMachines.{machine_of_plan, lock_of}
 use Rattle.plan_machine.specs.Kept.{IsValidPlanMachine}
 
@@ -46,20 +47,28 @@ module _ (plan : Plan) (shape : Shape) (kept : IsValidPlanMachine plan shape) wh
       let some = positive plan.base plan.levels kept.accepted.levels in
       range_of_state plan some.0 some.1 v s (state_is v lt s range)
 
-  module _ (heard : List State) (is : IsConfiguration (machine_of_plan plan) heard) where
+  -- and with further registers after them
+  pub front_range : (v : ℕ) → v < plan_nodes plan → (s : State)
+      → IsFront (machine_of_plan plan) v s → IsInRange plan s
+  front_range v lt s is =
+      let cut_range = range_is v lt (cut (plan_depth plan) s) is.front in
+      record {
+        x = cut_range.x;
+        values = range_from_cut plan.levels (plan_depth plan) (omega arith) s cut_range.values;
+      }
+
+  module _ (heard : List State) (is : AreFronts (machine_of_plan plan) heard) where
     all_of : (P : State → Type 0) → ((v : ℕ) → v < plan_nodes plan → (s : State)
-        → IsState plan v s → P s)
+        → IsFront (machine_of_plan plan) v s → P s)
         → All P heard
     all_of P holds = λ k d lt.
         let node : k < plan_nodes plan = omega (arith, lt, is.size) in
         subst P (within heard k (zero_state 0) d lt)
-        (holds k node (state_of heard k) (state_is k node (state_of heard k) (is.states k node)))
+        (holds k node (state_of heard k) (is.fronts k node))
 
     pub deep_enough : All (λ s. plan_depth plan ≤ length s.registers) heard
     deep_enough = all_of (λ s. plan_depth plan ≤ length s.registers)
-        (λ v node s has. let d = has.depth in omega (arith, d))
+        (λ v node s has. has.deep)
 
     pub in_range : All (IsInRange plan) heard
-    in_range =
-        let some = positive plan.base plan.levels kept.accepted.levels in
-        all_of (IsInRange plan) (λ v node s has. range_of_state plan some.0 some.1 v s has)
+    in_range = all_of (IsInRange plan) front_range

@@ -7,6 +7,7 @@ pub mod laws;
 pub mod node_laws;
 mod plan_machines;
 mod plan_nodes;
+mod plan_rounds;
 
 pub use plan_machines::PlanMachine;
 pub use plan_nodes::{NodeEngine, PlanNode};

@@ -4,7 +4,7 @@ ghost use Rattle.state_codec.specs.Shapes.{shape_of};
 use counter_core::{Counter, Heard, Work};
 use machines::Machine;
 use plan_numbers::Plan;
-use state_codec::StateShape;
+use state_codec::{Packed, StateShape};
 use std::alloc::Global;
 use std::marker::Model;
 use sync_types::{NoMemory, NodeState};
@@ -13,7 +13,7 @@ use tower::{Tower, build};
 /// The counter of an accepted plan, with the shape of its states: the machine that the plan is.
 #[derive(Drop)]
 pub struct PlanMachine {
-    tower: Tower,
+    pub(crate) tower: Tower,
     shape: StateShape,
 }
 
@@ -113,6 +113,13 @@ impl Machine for PlanMachine {
 
     fn output(&self, v: u32, state: &NodeState) -> u64 {
         self.tower.output(v, state)
+    }
+
+    fn output_in(&self, v: u32, states: &Packed) -> u64 {
+        match self.tower.depth() {
+            0 => states.x(v),
+            depth => states.reg(v, depth - 1).a.unwrap_or(0),
+        }
     }
 
     fn advance(&self, v: u32, heard: &Heard<'_>, work: &mut Work, out: &mut NodeState) {

@@ -16,7 +16,7 @@ use Rattle.layer_laws.specs.LayerRuns.{IsLayerConfiguration, IsNextScene, LayerR
 use Rattle.layer_laws.specs.LayerRuns.{IsLayerTable, scene}
 use Rattle.layer_laws.specs.Played.{IsKeptFor}
 use Rattle.counter_core.proofs.StateLists.{each_below}
-use Rattle.layer_laws.proofs.PlanCounters.{borne_by_counter, plans_settle}
+use Rattle.layer_laws.proofs.PlanCounters.{plans_settle}
 use Rattle.layer_runner.specs.PlayedEras.{PlaysEras}
 use Rattle.layer_laws.proofs.SceneSteps.{steps_as}
 use Rattle.layer_runner.proofs.PlayedScripts.{scripts_are_played_over}
@@ -94,7 +94,7 @@ module _ {Kept : Type 0} (layer : Layer Kept) (plan : Plan) (script : Script)
   plays_eras = record {
     settling = plans_settle plan is.accepted;
     whole = is.whole;
-    borne = λ k d lt. borne_by_counter plan _ (is.right.borne k d lt);
+    borne = is.right.borne;
     eras = era_is_run;
   }
 

@@ -1,7 +1,10 @@
-//! Groups of nodes, and the halves in them. A plan is the group of all its nodes.
+//! Groups of nodes, and the halves in them. A halving plan is the group of all its nodes.
 
-use crate::plans::{quotient, width};
-use crate::premises::MOST;
+use crate::constructions::Construction;
+use crate::halving_steps::stepped;
+use crate::numbers::{Numbers, quotient};
+use crate::states::{Fields, NO_FIELDS, State};
+use crate::texts::Text;
 
 /// How many levels of halves stand on a node at most: those of 85 faults.
 pub const MOST_LEVELS: usize = 8;
@@ -10,38 +13,35 @@ pub const MOST_LEVELS: usize = 8;
 const FAULTS: usize = 86;
 
 /// So many nodes from a first one on, of which so many may be faulty, and what they count by. A
-/// group that tolerates none is one node. After the registers of its groups each node of a plan has
-/// those of a layer, whose values are below `values`.
+/// group that tolerates none is one node.
 #[derive(Clone, Copy)]
 pub struct Group {
     pub first: u64,
     pub nodes: u64,
     pub faults: u64,
     pub modulus: u64,
-    pub behind: usize,
-    pub values: u64,
 }
 
-/// The groups with halves in which a node is, from the whole down.
-pub type Levels = [Option<Group>; MOST_LEVELS];
+/// The place of the king's register of the level at a depth. After it stands what the left half
+/// showed a round ago, with a mark if that is trusted.
+pub fn king_at(depth: usize) -> usize {
+    depth.saturating_mul(2)
+}
+
+/// The place of what the left half of the level at a depth showed.
+pub fn seen_at(depth: usize) -> usize {
+    king_at(depth).saturating_add(1)
+}
 
 impl Group {
-    /// A plan without a layer.
+    /// A plan.
     pub fn of(nodes: u64, faults: u64, modulus: u64) -> Group {
         Group {
             first: 0,
             nodes,
             faults,
             modulus,
-            behind: 0,
-            values: 0,
         }
-    }
-
-    /// Puts so many registers of a layer after those of the groups, with values below `values`.
-    pub fn set_layer(&mut self, behind: usize, values: u64) {
-        self.behind = behind;
-        self.values = values;
     }
 
     /// Whether the group is one node, which has no halves.
@@ -61,7 +61,7 @@ impl Group {
     }
 
     /// What its right half counts by: three instructions for each of that half's kings.
-    pub fn right_period(&self) -> u64 {
+    fn right_period(&self) -> u64 {
         self.right_faults().wrapping_add(1).wrapping_mul(3)
     }
 
@@ -72,7 +72,7 @@ impl Group {
 
     /// What its left half counts by: the right half's share, and then three instructions for each
     /// of the left half's kings.
-    pub fn left_period(&self) -> u64 {
+    fn left_period(&self) -> u64 {
         let left_share = self.left_faults().wrapping_add(1).wrapping_mul(3);
         self.right_share().wrapping_add(left_share)
     }
@@ -81,7 +81,9 @@ impl Group {
     fn fewest(first: u64, faults: u64, modulus: u64) -> Group {
         Group {
             first,
-            ..Group::of(faults.wrapping_mul(3).wrapping_add(1), faults, modulus)
+            nodes: faults.wrapping_mul(3).wrapping_add(1),
+            faults,
+            modulus,
         }
     }
 
@@ -93,17 +95,8 @@ impl Group {
     /// Its right half.
     pub fn right(&self) -> Group {
         let left = self.left();
-        Group::fewest(
-            left.first.wrapping_add(left.nodes),
-            self.right_faults(),
-            self.right_period(),
-        )
-    }
-
-    /// How many of its nodes are in neither half.
-    pub fn spares(&self) -> u64 {
-        let in_halves = self.left().nodes.wrapping_add(self.right().nodes);
-        self.nodes.wrapping_sub(in_halves)
+        let first = left.first.wrapping_add(left.nodes);
+        Group::fewest(first, self.right_faults(), self.right_period())
     }
 
     /// Whether a node is in it.
@@ -112,7 +105,7 @@ impl Group {
     }
 
     /// The half in which a node is.
-    fn half_of(&self, node: u64) -> Option<Group> {
+    pub fn half_of(&self, node: u64) -> Option<Group> {
         if self.is_single() {
             None
         } else if self.left().has(node) {
@@ -122,74 +115,6 @@ impl Group {
         } else {
             None
         }
-    }
-
-    /// The groups with halves in which one of its nodes is, itself the first.
-    pub fn levels_of(&self, node: u64) -> Levels {
-        let mut levels = [None; MOST_LEVELS];
-        let mut group = Some(*self);
-        for level in &mut levels {
-            if let Some(whole) = group {
-                group = whole.half_of(node);
-                if !whole.is_single() {
-                    *level = Some(whole);
-                }
-            }
-        }
-        levels
-    }
-
-    /// What the number of one of its nodes counts by, if the node is alone in its lowest group.
-    pub fn base_of(&self, node: u64) -> Option<u64> {
-        let mut lowest = *self;
-        for _ in 0..MOST_LEVELS {
-            if let Some(half) = lowest.half_of(node) {
-                lowest = half;
-            }
-        }
-        if lowest.is_single() {
-            Some(lowest.modulus)
-        } else {
-            None
-        }
-    }
-
-    /// Below what the finite values of the registers of its level are: that of the king, and what
-    /// its left half showed.
-    pub fn moduli(&self) -> [u64; 2] {
-        [self.modulus, self.left_period()]
-    }
-
-    /// How many bits the registers of its level take.
-    pub fn level_bits(&self) -> u64 {
-        let mut bits = 0u64;
-        for modulus in &self.moduli() {
-            let value = width(modulus.wrapping_add(1));
-            bits = bits.wrapping_add(value).wrapping_add(1);
-        }
-        bits
-    }
-
-    /// How many bits the registers of a layer take.
-    fn bits_behind(&self) -> u64 {
-        let register = width(self.values.wrapping_add(1)).wrapping_add(1);
-        register.wrapping_mul(self.behind as u64)
-    }
-
-    /// How many bits a state of one of its nodes has.
-    pub fn bits(&self, node: u64) -> u64 {
-        let mut bits = width(self.base_of(node).unwrap_or(1));
-        for level in &self.levels_of(node) {
-            if let Some(group) = level {
-                bits = bits.wrapping_add(group.level_bits());
-            }
-        }
-        bits.wrapping_add(self.bits_behind())
-    }
-
-    /// How many bytes a state of one of its nodes has.
-    pub fn bytes(&self, node: u64) -> u64 {
-        self.bits(node).wrapping_add(7) / 8
     }
 
     /// In how many phases of one king of the right half the left half may disturb it, and one more.
@@ -210,7 +135,7 @@ impl Group {
     }
 
     /// The configuration from which all its correct nodes count.
-    pub fn bound(&self) -> u64 {
+    fn bound(&self) -> u64 {
         let mut bounds = [0; FAULTS];
         for faults in 1..FAULTS {
             let bound = Group::fewest(0, faults as u64, 0).bound_over(&bounds);
@@ -221,18 +146,55 @@ impl Group {
         bounds.get(self.faults as usize).copied().unwrap_or(0)
     }
 
-    /// The first premise that it fails as a plan.
-    pub fn broken(&self) -> Option<&'static str> {
-        if self.nodes > 256 || self.modulus > MOST {
-            Some("limit")
-        } else if self.modulus < 2 {
-            Some("modulus")
-        } else if self.nodes <= self.faults.wrapping_mul(3) {
-            Some("quorum")
-        } else if self.is_single() && self.nodes > 1 {
-            Some("single")
+    /// Puts the fields of the level of a group at a depth: the registers of a group with halves, or
+    /// the number of a node that is alone.
+    fn put_fields(&self, depth: usize, fields: &mut Fields) {
+        if self.is_single() {
+            fields.base = self.modulus;
         } else {
-            None
+            fields.put(king_at(depth), self.modulus);
+            fields.put(seen_at(depth), self.left_period());
         }
+    }
+}
+
+impl Construction for Group {
+    fn numbers(&self) -> Numbers {
+        Numbers {
+            nodes: self.nodes,
+            faults: self.faults,
+            modulus: self.modulus,
+            bound: self.bound(),
+        }
+    }
+
+    fn fields(&self, node: u64) -> Fields {
+        let mut fields = NO_FIELDS;
+        let mut half = Some(*self);
+        for depth in 0..=MOST_LEVELS {
+            if let Some(group) = half {
+                group.put_fields(depth, &mut fields);
+                half = group.half_of(node);
+            }
+        }
+        fields
+    }
+
+    fn top(&self) -> Option<usize> {
+        if self.is_single() {
+            None
+        } else {
+            Some(king_at(0))
+        }
+    }
+
+    fn stepped(&self, node: u64, heard: &[State]) -> State {
+        stepped(self, node, heard)
+    }
+
+    fn write(&self, out: &mut Text) {
+        out.line("halving", &[1]);
+        out.line("group", &[self.nodes, self.faults, self.modulus]);
+        out.word("end\n");
     }
 }

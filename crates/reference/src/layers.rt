@@ -1,33 +1,54 @@
-//! Layers above the counter, whose nodes have registers after those of the plan and keep something
-//! beside, and slot tables.
+//! Layers above the counter, whose nodes have registers after those of the counter and keep
+//! something beside, and slot tables.
 
-use crate::numbers::Numbers;
-use crate::plans::{quotient, remainder};
-use crate::spans::{Span, cover};
-use crate::states::{Register, State, state_of};
-use crate::steps::{agreed, register};
+use crate::agreement::agreed;
+use crate::constructions::Layer;
+use crate::numbers::{Numbers, quotient, remainder};
+use crate::states::{LAYER, Register, State, state_of};
 use crate::texts::Text;
 
-/// What is made of the outputs of the counter: nothing; who holds, by the slots; agreement on the
-/// inputs of the nodes; firing on requests; or a log of the commands of each node.
+/// A node has the numbers from the first to the last: outputs of its slots, or rounds of its
+/// requests.
 #[derive(Clone, Copy)]
-pub enum Part<'a> {
+pub struct Span {
+    pub node: u64,
+    pub first: u64,
+    pub last: u64,
+}
+
+/// What is made of the outputs of the counter: nothing; who holds, by the slots; agreement on the
+/// inputs of the nodes; firing on requests; or a log of which so many entries are kept, of the
+/// commands of each node. Inputs and commands are below some number.
+#[derive(Drop)]
+pub enum Part {
     Rows,
-    Slots(&'a [Span]),
-    Agreement(&'a [u64]),
-    Firing(&'a [Span]),
-    Log(&'a [Vec<u64>]),
+    Slots(Vec<Span>),
+    Agreement(u64, Vec<u64>),
+    Firing(Vec<Span>),
+    Log(u64, u64, Vec<Vec<u64>>),
 }
 
 /// What a node hears in round `at`, in which it shows an output: states of all nodes, its own among
-/// them, whose registers from a depth on are those of a layer.
+/// them.
 #[derive(Clone, Copy)]
 pub struct Heard<'a> {
     pub at: u64,
     pub node: u64,
     pub output: u64,
     pub states: &'a [State],
-    pub depth: usize,
+}
+
+/// Where a log has the register of the command of a node.
+const COMMAND: usize = LAYER + 1;
+
+/// Whether a span of a node has a number.
+fn cover(spans: &[Span], node: u64, number: u64) -> bool {
+    for span in spans {
+        if span.node == node && span.first <= number && number <= span.last {
+            return true;
+        }
+    }
+    false
 }
 
 /// A register that was loaded.
@@ -55,53 +76,63 @@ fn command(numbers: &Numbers, commands: &[Vec<u64>], node: u64, output: u64) -> 
     }
 }
 
-impl Part<'_> {
+impl Part {
+    /// The registers that the part has.
+    pub fn layer(&self) -> Layer {
+        let (registers, values) = match self {
+            Part::Rows | Part::Slots(_) => (0, 0),
+            Part::Agreement(values, _) => (1, *values),
+            Part::Firing(_) => (1, 2),
+            Part::Log(values, _, _) => (2, *values),
+        };
+        Layer { registers, values }
+    }
+
     /// Whether the nodes have registers of a layer.
-    pub fn is_layer(self) -> bool {
-        !matches!(self, Part::Rows | Part::Slots(_))
+    pub fn is_layer(&self) -> bool {
+        self.layer().registers > 0
     }
 
     /// How many rounds belong to a slot.
-    pub fn period(self, numbers: &Numbers) -> u64 {
+    pub fn period(&self, numbers: &Numbers) -> u64 {
         match self {
-            Part::Log(_) => numbers.entry(),
+            Part::Log(_, _, _) => numbers.entry(),
             _ => numbers.slot(),
         }
     }
 
     /// What is loaded into the register of agreement of a node in a round, if anything is: at the
     /// end of a slot an input, and at the beginning of an entry what its owner proposes.
-    fn input(self, numbers: &Numbers, heard: &Heard) -> Option<u64> {
+    fn input(&self, numbers: &Numbers, heard: &Heard) -> Option<u64> {
         let place = remainder(heard.output, self.period(numbers));
         let is_last = place.wrapping_add(1) == self.period(numbers);
         match self {
-            Part::Agreement(inputs) if is_last => inputs.get(heard.node as usize).copied(),
+            Part::Agreement(_, inputs) if is_last => inputs.get(heard.node as usize).copied(),
             Part::Firing(requests) if is_last => {
                 Some(u64::from(cover(requests, heard.node, heard.at)))
             }
-            Part::Log(_) if place == 0 => {
+            Part::Log(_, _, _) if place == 0 => {
                 let owner = state_of(heard.states, owner(numbers, heard.output));
-                let proposed = register(&owner, heard.depth.wrapping_add(1));
-                Some(proposed.value.unwrap_or(0))
+                Some(owner.register(COMMAND).value.unwrap_or(0))
             }
             _ => None,
         }
     }
 
     /// The register of agreement of a node after a turn of a slot.
-    fn result(self, numbers: &Numbers, heard: &Heard) -> Register {
+    fn result(&self, numbers: &Numbers, heard: &Heard) -> Register {
         let place = remainder(heard.output, self.period(numbers));
-        let own = register(&state_of(heard.states, heard.node), heard.depth);
+        let own = state_of(heard.states, heard.node).register(LAYER);
         let turn = match self {
-            Part::Log(_) => place.wrapping_sub(1),
+            Part::Log(_, _, _) => place.wrapping_sub(1),
             _ => place,
         };
-        agreed(own, heard.states, heard.depth, numbers.faults, turn)
+        agreed(own, heard.states, LAYER, numbers.faults, turn)
     }
 
     /// Puts a node's new registers of the layer into its state, and what it keeps now, after a
     /// round in which it hears this.
-    pub fn step(self, numbers: &Numbers, heard: &Heard, state: &mut State) {
+    pub fn step(&self, numbers: &Numbers, heard: &Heard, state: &mut State) {
         let result = self.result(numbers, heard);
         if remainder(heard.output.wrapping_add(1), self.period(numbers)) == 0 {
             state.kept = result.value.unwrap_or(0);
@@ -109,39 +140,71 @@ impl Part<'_> {
             state.kept = 0;
         }
         match self.input(numbers, heard) {
-            Some(input) => state.put(heard.depth, loaded(input)),
-            None => state.put(heard.depth, result),
+            Some(input) => state.put(LAYER, loaded(input)),
+            None => state.put(LAYER, result),
         }
-        if let Part::Log(commands) = self {
+        if let Part::Log(_, _, commands) = self {
             let command = command(numbers, commands, heard.node, heard.output);
-            state.put(heard.depth.wrapping_add(1), loaded(command));
+            state.put(COMMAND, loaded(command));
         }
     }
 
     /// Writes the beginning of a line of configuration `at`, in which the lowest correct node
     /// showed an output.
-    pub fn write_front(self, out: &mut Text, numbers: &Numbers, at: u64, output: u64) {
+    pub fn write_front(&self, out: &mut Text, numbers: &Numbers, at: u64, output: u64) {
         let word = match self {
             Part::Rows => "row",
             Part::Slots(_) => "hold",
-            Part::Agreement(_) => "slot",
+            Part::Agreement(_, _) => "slot",
             Part::Firing(_) => "fire",
-            Part::Log(_) => "entry",
+            Part::Log(_, _, _) => "entry",
         };
         out.put(word, &[at]);
-        if let Part::Log(_) = self {
+        if let Part::Log(_, _, _) = self {
             out.put(" owner", &[owner(numbers, output)]);
         }
     }
 
     /// Writes the word of a correct node, which shows an output and keeps something.
-    pub fn write_word(self, out: &mut Text, node: u64, output: u64, kept: u64) {
+    pub fn write_word(&self, out: &mut Text, node: u64, output: u64, kept: u64) {
         let is_marked = match self {
             Part::Rows => return out.put("", &[output]),
-            Part::Agreement(_) | Part::Log(_) => return out.put("", &[kept]),
+            Part::Agreement(_, _) | Part::Log(_, _, _) => return out.put("", &[kept]),
             Part::Slots(slots) => cover(slots, node, output),
             Part::Firing(_) => kept == 1,
         };
         out.word(if is_marked { " 1" } else { " ." });
+    }
+
+    /// Writes the lines of the part, if it has any.
+    pub fn write(&self, out: &mut Text) {
+        match self {
+            Part::Rows => return,
+            Part::Slots(slots) => write_spans(out, "slots", "slot", slots),
+            Part::Agreement(values, inputs) => {
+                out.line("agree", &[1]);
+                out.line("values", &[*values]);
+                out.line("inputs", inputs);
+            }
+            Part::Firing(requests) => write_spans(out, "fire", "request", requests),
+            Part::Log(values, keep, commands) => {
+                out.line("log", &[1]);
+                out.line("values", &[*values]);
+                out.line("keep", &[*keep]);
+                for (node, own) in commands.iter().enumerate() {
+                    out.put("commands", &[node as u64]);
+                    out.line("", own);
+                }
+            }
+        }
+        out.line("end", &[]);
+    }
+}
+
+/// Writes the lines of a part of spans, each after a word.
+fn write_spans(out: &mut Text, part: &str, word: &str, spans: &[Span]) {
+    out.line(part, &[1]);
+    for span in spans {
+        out.line(word, &[span.node, span.first, span.last]);
     }
 }

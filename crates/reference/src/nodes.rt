@@ -1,33 +1,12 @@
 //! One node: the cells that it writes, from the packets that it hears.
 
 use crate::bits::number;
-use crate::lines::Lines;
-use crate::plan_texts::read_plan;
-use crate::plans::Plan;
-use crate::refusals::Stop;
-use crate::states::{State, ZERO_STATE, read, written};
-use crate::steps::stepped;
+use crate::constructions::{Construction, Shape};
+use crate::states::{State, ZERO_STATE};
 use std::alloc::{AllocError, Global};
-
-/// The name of the part.
-const PART: &str = "node";
 
 /// How many packets a node takes.
 pub const MOST_PACKETS: u64 = 1_000_000;
-
-/// A node of a plan, and the bytes of the state that it begins with.
-pub struct Node {
-    pub id: u64,
-    pub start: Vec<u8>,
-}
-
-// Written out, so that code that drops one has a single call.
-impl Drop for Node {
-    fn drop(self) {
-        let Node { id: _, start } = self;
-        drop(start);
-    }
-}
 
 /// Puts the length of a cell and then its bytes.
 pub fn put_cell(bytes: &mut Vec<u8>, cell: &[u8]) -> Result<(), AllocError> {
@@ -36,11 +15,22 @@ pub fn put_cell(bytes: &mut Vec<u8>, cell: &[u8]) -> Result<(), AllocError> {
     bytes.extend_from_slice(cell)
 }
 
+/// Puts the cell of a node in a state.
+pub fn put_state(
+    bytes: &mut Vec<u8>,
+    shape: &Shape,
+    node: u64,
+    state: &State,
+) -> Result<(), AllocError> {
+    let fields = shape.fields(node);
+    put_cell(bytes, fields.written(state).bytes(fields.bytes()))
+}
+
 /// What a node that is in a state hears by the packet at the beginning of some bytes, and the bytes
 /// after it; none if it is not whole. A cell stands after its length. Of another node it is the
 /// state that its cell has, if it has its length, else the zero state.
 fn hear<'a>(
-    plan: &Plan,
+    shape: &Shape,
     node: u64,
     own: &State,
     bytes: &'a [u8],
@@ -54,79 +44,38 @@ fn hear<'a>(
         left = left.get(end..)?;
         *state = if sender == node {
             *own
-        } else if cell.len() as u64 == plan.bytes(sender) {
-            read(plan, sender, cell)
         } else {
-            ZERO_STATE
+            shape.fields(sender).read(cell)
         };
     }
     Some(left)
 }
 
-/// Puts the cells that a node writes, which answers each packet that is whole, and returns the exit
-/// code. What it hears is put into `heard`.
-fn put_cells(
-    plan: &Plan,
-    node: &Node,
-    bytes: &[u8],
-    heard: &mut [State],
-    cells: &mut Vec<u8>,
-) -> Result<u8, AllocError> {
-    let length = plan.bytes(node.id);
-    let mut state = read(plan, node.id, &node.start);
-    let mut left = bytes;
-    for packet in 0..=MOST_PACKETS {
-        put_cell(cells, written(plan, node.id, &state).bytes(length))?;
-        if left.is_empty() {
-            return Ok(0);
-        }
-        if packet == MOST_PACKETS {
-            break;
-        }
-        match hear(plan, node.id, &state, left, heard) {
-            Some(behind) => left = behind,
-            None => return Ok(9),
-        }
-        state = stepped(plan, node.id, heard);
-    }
-    Ok(8)
-}
-
-/// The cells that a node writes, and the exit code.
-pub fn answer(
+/// The cells that a node of a plan writes which begins in a state of some bytes and answers each
+/// packet that is whole, and the exit code.
+pub fn cells<C: Construction>(
     alloc: Global,
-    plan: &Plan,
-    node: &Node,
-    bytes: &[u8],
+    plan: &C,
+    shape: &Shape,
+    node: u64,
+    start: &[u8],
+    packets: &[u8],
 ) -> Result<(Vec<u8>, u8), AllocError> {
-    let mut heard = vec![in alloc; ZERO_STATE; plan.nodes() as usize]?;
+    let mut heard = vec![in alloc; ZERO_STATE; shape.numbers.nodes as usize]?;
     let mut cells = Vec::new(alloc);
-    let code = put_cells(plan, node, bytes, &mut heard, &mut cells)?;
-    Ok((cells, code))
-}
-
-/// Takes the lines of a node.
-fn read_node(alloc: Global, plan: &Plan, lines: &mut Lines) -> Node {
-    lines.take_version(PART, 1);
-    lines.take(PART);
-    let id = lines.only("id");
-    lines.want(id < plan.nodes(), "node");
-    lines.take(PART);
-    lines.want_form(2, "state");
-    let start = lines.bytes(alloc, 1, plan.bytes(id));
-    lines.take_end(PART);
-    Node { id, start }
-}
-
-/// What `node` writes, and the exit code.
-pub fn cells(alloc: Global, lines: &mut Lines, input: &[u8]) -> Result<(Vec<u8>, u8), Stop> {
-    let plan = read_plan(alloc, lines)?;
-    let node = read_node(alloc, &plan, lines);
-    match lines.result() {
-        Ok(()) => {
-            let packets = input.get(lines.end()..).unwrap_or(&[]);
-            Ok(answer(alloc, &plan, &node, packets)?)
+    let mut state = shape.fields(node).read(start);
+    let mut left = packets;
+    for _ in 0..MOST_PACKETS {
+        put_state(&mut cells, shape, node, &state)?;
+        if left.is_empty() {
+            return Ok((cells, 0));
         }
-        Err(stop) => Err(stop),
+        match hear(shape, node, &state, left, &mut heard) {
+            Some(behind) => left = behind,
+            None => return Ok((cells, 9)),
+        }
+        state = plan.stepped(node, &heard);
     }
+    put_state(&mut cells, shape, node, &state)?;
+    Ok((cells, if left.is_empty() { 0 } else { 8 }))
 }

@@ -1,7 +1,4 @@
-//! The numbers of a plan of either construction.
-
-use crate::halving_groups::Group;
-use crate::plans::Plan;
+//! The numbers of a plan of either construction, and how they are divided.
 
 /// How many nodes there are, how many of them may be faulty, what they count by, and from which
 /// configuration on all correct ones count.
@@ -14,26 +11,6 @@ pub struct Numbers {
 }
 
 impl Numbers {
-    /// Those of a boosting plan.
-    pub fn of(plan: &Plan) -> Numbers {
-        Numbers {
-            nodes: plan.nodes(),
-            faults: plan.faults(),
-            modulus: plan.modulus(),
-            bound: plan.bound(),
-        }
-    }
-
-    /// Those of a halving plan.
-    pub fn of_halving(plan: &Group) -> Numbers {
-        Numbers {
-            nodes: plan.nodes,
-            faults: plan.faults,
-            modulus: plan.modulus,
-            bound: plan.bound(),
-        }
-    }
-
     /// How many rounds a slot has.
     pub fn slot(&self) -> u64 {
         self.faults.wrapping_add(1).wrapping_mul(3)
@@ -48,4 +25,24 @@ impl Numbers {
     pub fn turn(&self) -> u64 {
         self.nodes.wrapping_mul(self.entry())
     }
+}
+
+/// `a` divided by `b`, or 0 if `b` is 0.
+pub fn quotient(a: u64, b: u64) -> u64 {
+    a.checked_div(b).unwrap_or(0)
+}
+
+/// `a` modulo `b`, or 0 if `b` is 0.
+pub fn remainder(a: u64, b: u64) -> u64 {
+    a.checked_rem(b).unwrap_or(0)
+}
+
+/// The least number of bits that tell `count` values apart.
+pub fn width(count: u64) -> u64 {
+    for bits in 0..64 {
+        if 1 << bits >= count {
+            return bits;
+        }
+    }
+    64
 }

@@ -1,5 +1,10 @@
-//! Plans, and which nodes take part on which level.
+//! Boosting plans, and which nodes take part on which level.
 
+use crate::constructions::Construction;
+use crate::numbers::{Numbers, quotient, remainder};
+use crate::states::{Fields, NO_FIELDS, State};
+use crate::steps::stepped;
+use crate::texts::Text;
 use std::alloc::{AllocError, Global};
 
 /// A level of a plan: its blocks, the faults that it tolerates, its modulus, and its spare nodes.
@@ -12,54 +17,17 @@ pub struct Level {
 }
 
 /// A version, 1 or 2, a base modulus, and levels from the bottom up. Version 1 has no spare nodes.
-/// After the registers of the levels each node has those of a layer, whose values are below
-/// `values`.
+#[derive(Drop)]
 pub struct Plan {
     pub version: u64,
     pub base: u64,
     pub levels: Vec<Level>,
-    pub behind: usize,
-    pub values: u64,
-}
-
-// Written out, so that code that drops one has a single call.
-impl Drop for Plan {
-    fn drop(self) {
-        let Plan {
-            version: _,
-            base: _,
-            levels,
-            behind: _,
-            values: _,
-        } = self;
-        drop(levels);
-    }
-}
-
-/// `a` divided by `b`, or 0 if `b` is 0.
-pub fn quotient(a: u64, b: u64) -> u64 {
-    a.checked_div(b).unwrap_or(0)
-}
-
-/// `a` modulo `b`, or 0 if `b` is 0.
-pub fn remainder(a: u64, b: u64) -> u64 {
-    a.checked_rem(b).unwrap_or(0)
-}
-
-/// The least number of bits that tell `count` values apart.
-pub fn width(count: u64) -> u64 {
-    for bits in 0..64 {
-        if 1 << bits >= count {
-            return bits;
-        }
-    }
-    64
 }
 
 impl Level {
     /// How many blocks may lead.
     pub fn leaders(&self) -> u64 {
-        quotient(self.blocks.wrapping_add(1), 2)
+        self.blocks.wrapping_add(1) / 2
     }
 
     /// How many rounds a beat has.
@@ -89,8 +57,6 @@ impl Plan {
             version,
             base,
             levels: Vec::new(alloc),
-            behind: 0,
-            values: 0,
         }
     }
 
@@ -113,47 +79,21 @@ impl Plan {
         Ok(plan)
     }
 
-    /// Puts so many registers of a layer after those of the levels, with values below `values`.
-    pub fn set_layer(&mut self, behind: usize, values: u64) {
-        self.behind = behind;
-        self.values = values;
-    }
-
-    /// How many registers a state has.
-    pub fn registers(&self) -> usize {
-        self.levels.len().saturating_add(self.behind)
-    }
-
-    /// Below what the values of a register are.
-    pub fn modulus_of(&self, register: usize) -> u64 {
-        match self.levels.get(register) {
-            Some(level) => level.modulus,
-            None => self.values,
-        }
-    }
-
-    /// The modulus that the nodes count by.
-    pub fn modulus(&self) -> u64 {
-        match self.levels.last() {
-            Some(level) => level.modulus,
-            None => self.base,
-        }
-    }
-
-    /// How many rounds a slot has.
-    pub fn slot(&self) -> u64 {
-        self.faults().wrapping_add(1).wrapping_mul(3)
-    }
-
     /// How many nodes a group of the lowest `depth` levels has.
     pub fn group(&self, depth: usize) -> u64 {
-        let mut nodes = 1;
-        for (place, level) in self.levels.iter().enumerate() {
-            if place < depth {
-                nodes = level.blocks.wrapping_mul(nodes).wrapping_add(level.spares);
-            }
+        let mut nodes = 1u64;
+        for level in self.levels.iter().take(depth) {
+            nodes = level.blocks.wrapping_mul(nodes).wrapping_add(level.spares);
         }
         nodes
+    }
+
+    /// How many faulty nodes the plan tolerates.
+    pub fn faults(&self) -> u64 {
+        match self.levels.last() {
+            Some(level) => level.faults,
+            None => 0,
+        }
     }
 
     /// How many nodes there are.
@@ -161,31 +101,9 @@ impl Plan {
         self.group(self.levels.len())
     }
 
-    /// How many faulty nodes a group of the lowest `depth` levels tolerates.
-    pub fn faults_of(&self, depth: usize) -> u64 {
-        match self.levels.get(depth.wrapping_sub(1)) {
-            Some(level) => level.faults,
-            None => 0,
-        }
-    }
-
-    /// How many faulty nodes the plan tolerates.
-    pub fn faults(&self) -> u64 {
-        self.faults_of(self.levels.len())
-    }
-
-    /// The configuration from which all correct nodes count.
-    pub fn bound(&self) -> u64 {
-        let mut bound = 0u64;
-        for level in &self.levels {
-            bound = bound.wrapping_add(level.span());
-        }
-        bound
-    }
-
     /// The level of which a node is a spare, or 0 if it is none. The node takes part from that
     /// level on.
-    pub fn low(&self, node: u64) -> usize {
+    fn low(&self, node: u64) -> usize {
         let mut place = node;
         for depth in (0..self.levels.len()).rev() {
             let above = self.group(depth.wrapping_add(1));
@@ -214,35 +132,61 @@ impl Plan {
         first
     }
 
-    /// Whether a node has a number.
-    pub fn has_number(&self, node: u64) -> bool {
-        self.low(node) == 0
+    /// What the number of a node counts by, 1 if it has none.
+    pub fn base_of(&self, node: u64) -> u64 {
+        if self.low(node) == 0 { self.base } else { 1 }
     }
 
-    /// Whether a node has a register on the level above the lowest `depth` ones; it has those of a
-    /// layer.
+    /// Whether a node has a register on the level above the lowest `depth` ones.
     pub fn has_register(&self, node: u64, depth: usize) -> bool {
-        depth < self.registers() && self.low(node) <= depth.wrapping_add(1)
+        self.low(node) <= depth.wrapping_add(1)
+    }
+}
+
+impl Construction for Plan {
+    fn numbers(&self) -> Numbers {
+        let mut numbers = Numbers {
+            nodes: self.nodes(),
+            faults: self.faults(),
+            modulus: self.base,
+            bound: 0,
+        };
+        for level in &self.levels {
+            numbers.modulus = level.modulus;
+            numbers.bound = numbers.bound.wrapping_add(level.span());
+        }
+        numbers
     }
 
-    /// How many bits a state of a node has.
-    pub fn bits(&self, node: u64) -> u64 {
-        let mut bits = if self.has_number(node) {
-            width(self.base)
-        } else {
-            0
-        };
-        for depth in 0..self.registers() {
+    fn fields(&self, node: u64) -> Fields {
+        let mut fields = NO_FIELDS;
+        fields.base = self.base_of(node);
+        for (depth, level) in self.levels.iter().enumerate() {
             if self.has_register(node, depth) {
-                let value = width(self.modulus_of(depth).wrapping_add(1));
-                bits = bits.wrapping_add(value).wrapping_add(1);
+                fields.put(depth, level.modulus);
             }
         }
-        bits
+        fields
     }
 
-    /// How many bytes a state of a node has.
-    pub fn bytes(&self, node: u64) -> u64 {
-        quotient(self.bits(node).wrapping_add(7), 8)
+    fn top(&self) -> Option<usize> {
+        self.levels.len().checked_sub(1)
+    }
+
+    fn stepped(&self, node: u64, heard: &[State]) -> State {
+        stepped(self, node, heard)
+    }
+
+    fn write(&self, out: &mut Text) {
+        out.line("plan", &[self.version]);
+        out.line("base", &[self.base]);
+        for level in &self.levels {
+            out.put("level", &[level.blocks, level.faults, level.modulus]);
+            if self.version == 2 {
+                out.put(" spare", &[level.spares]);
+            }
+            out.word("\n");
+        }
+        out.word("end\n");
     }
 }

@@ -1,8 +1,7 @@
 //! Scripts: who is faulty when, in which states nodes start, and what a node hears of another.
 
-use crate::bits::{Bits, NO_BITS};
-use crate::plans::{Plan, quotient};
-use crate::states::{State, ZERO_STATE, read, shifted, state_of};
+use crate::bits::NO_BITS;
+use crate::states::{Fields, State, ZERO_STATE, state_of};
 use rand_chacha::ChaCha8Rng;
 use rand_core::{Rng, SeedableRng};
 
@@ -181,10 +180,10 @@ impl Script {
         }
     }
 
-    /// The noise of a stream from word `turn * words` on, of which so many bytes are a state, which
-    /// has so many words.
-    fn noise(&self, bytes: u64, stream: u64, turn: u64) -> Bits {
-        let words = quotient(bytes.wrapping_add(3), 4);
+    /// The state of some fields that is number `turn` of the noise of a stream.
+    fn noise(&self, fields: &Fields, stream: u64, turn: u64) -> State {
+        let bytes = fields.bytes();
+        let words = bytes.wrapping_add(3) / 4;
         let first = turn.wrapping_mul(words);
         let key = self.key.unwrap_or([0; 32]);
         let mut bits = NO_BITS;
@@ -192,23 +191,11 @@ impl Script {
             let word = word(key, stream, first.wrapping_add(i));
             bits.put(u64::from(word.swap_bytes()), 32);
         }
-        bits
-    }
-
-    /// The noise that a sender says to a receiver in round `at`, of which so many bytes are a
-    /// state.
-    pub fn told_noise(&self, bytes: u64, at: u64, sender: u64, receiver: u64) -> Bits {
-        let stream = sender.wrapping_mul(256).wrapping_add(receiver);
-        self.noise(bytes, stream, at)
-    }
-
-    /// The noise in which a node starts, of which so many bytes are a state.
-    pub fn start_noise(&self, bytes: u64, node: u64) -> Bits {
-        self.noise(bytes, node.wrapping_add(65536), 0)
+        fields.read(bits.bytes(bytes))
     }
 
     /// What a sender says to a receiver in round `at` by the first rule that matches.
-    pub fn told(&self, at: u64, sender: u64, receiver: u64) -> Option<&Lie> {
+    fn told(&self, at: u64, sender: u64, receiver: u64) -> Option<&Lie> {
         for rule in &self.rules {
             if rule.matches(self, at, sender, receiver) {
                 return Some(&rule.lie);
@@ -217,37 +204,34 @@ impl Script {
         None
     }
 
-    /// What a faulty sender says to a receiver in round `at`: by the first rule that matches, else
-    /// its own state.
-    pub fn lie(&self, plan: &Plan, config: &[State], at: u64, sender: u64, receiver: u64) -> State {
+    /// What a faulty sender, whose states have these fields, says to a receiver in round `at`: by
+    /// the first rule that matches, else its own state.
+    pub fn lie(
+        &self,
+        fields: &Fields,
+        config: &[State],
+        at: u64,
+        sender: u64,
+        receiver: u64,
+    ) -> State {
         let own = state_of(config, sender);
-        let count = plan.bytes(sender);
         match self.told(at, sender, receiver) {
             Some(Lie::Noise) => {
-                let noise = self.told_noise(count, at, sender, receiver);
-                read(plan, sender, noise.bytes(count))
+                let stream = sender.wrapping_mul(256).wrapping_add(receiver);
+                self.noise(fields, stream, at)
             }
-            Some(Lie::Copy(node)) => shifted(plan, sender, &state_of(config, *node), 0),
-            Some(Lie::Bytes(bytes)) => read(plan, sender, bytes),
-            Some(Lie::Shift(by)) => shifted(plan, sender, &own, *by),
+            Some(Lie::Copy(node)) => fields.shifted(&state_of(config, *node), 0),
+            Some(Lie::Bytes(bytes)) => fields.read(bytes),
+            Some(Lie::Shift(by)) => fields.shifted(&own, *by),
             None => own,
         }
     }
 
-    /// The bytes of a node's own start line, if there is one.
-    pub fn start_bytes(&self, node: u64) -> Option<&[u8]> {
-        bytes_for(&self.starts, node)
-    }
-
-    /// The state in which a node starts: by its own line, else zero or noise.
-    pub fn start(&self, plan: &Plan, node: u64) -> State {
-        let count = plan.bytes(node);
-        match self.start_bytes(node) {
-            Some(bytes) => read(plan, node, bytes),
-            None if self.noisy => {
-                let noise = self.start_noise(count, node);
-                read(plan, node, noise.bytes(count))
-            }
+    /// The state of these fields in which a node starts: by its own line, else zero or noise.
+    pub fn start(&self, fields: &Fields, node: u64) -> State {
+        match bytes_for(&self.starts, node) {
+            Some(bytes) => fields.read(bytes),
+            None if self.noisy => self.noise(fields, node.wrapping_add(65536), 0),
             None => ZERO_STATE,
         }
     }

@@ -1,11 +1,14 @@
 //! States of nodes, and how bytes are read as one.
 
 use crate::bits::{Bits, NO_BITS, number};
-use crate::plans::{Plan, remainder, width};
+use crate::numbers::{remainder, width};
 
-/// How many registers there is room for: those of five levels, since no plan of at most 256 nodes
-/// has more, and two of a layer.
-const ROOM: usize = 7;
+/// Where the registers of a layer stand: after those of eight levels of halves, of two registers
+/// each. No plan of at most 256 nodes has more.
+pub const LAYER: usize = 16;
+
+/// How many registers there is room for: a layer has two at most.
+pub const ROOM: usize = 18;
 
 /// A register: a finite value, or None if it is infinite, and its mark.
 #[derive(Clone, Copy)]
@@ -14,14 +17,21 @@ pub struct Register {
     pub mark: bool,
 }
 
-/// A number and a register for each level, from the bottom up, and after them those of a layer.
-/// What a node lacks is 0, with no mark. Beside them, what a node of a layer decided last, which it
-/// says to nobody.
+/// A number, the registers of a counter, and those of a layer. What a node lacks is 0, with no
+/// mark. Beside them, what a node of a layer decided last, which it says to nobody.
 #[derive(Clone, Copy)]
 pub struct State {
     pub x: u64,
     pub registers: [Register; ROOM],
     pub kept: u64,
+}
+
+/// Below what the number of a node's state is, 1 if it has none, and below what the values of its
+/// registers are, 0 of one that it lacks. Bits stand in this order.
+#[derive(Clone, Copy)]
+pub struct Fields {
+    pub base: u64,
+    pub moduli: [u64; ROOM],
 }
 
 /// A register that a node lacks, or that it starts with.
@@ -37,93 +47,133 @@ pub const ZERO_STATE: State = State {
     kept: 0,
 };
 
-impl State {
-    /// Puts a register above a depth.
-    pub fn put(&mut self, depth: usize, register: Register) {
-        if let Some(old) = self.registers.get_mut(depth) {
-            *old = register;
-        }
-    }
-}
+/// A state that has nothing.
+pub const NO_FIELDS: Fields = Fields {
+    base: 1,
+    moduli: [0; ROOM],
+};
 
 /// The value that a number is read as, which is infinite if it is too large.
 fn value_of(number: u64, modulus: u64) -> Option<u64> {
     if number < modulus { Some(number) } else { None }
 }
 
-/// The state of a node that some bytes are read as: a number that is too large is 0, and a value
-/// that is too large is infinite.
-pub fn read(plan: &Plan, node: u64, bytes: &[u8]) -> State {
-    let mut state = ZERO_STATE;
-    let mut at = 0u64;
-    if plan.has_number(node) {
-        at = width(plan.base);
-        state.x = value_of(number(bytes, 0, at), plan.base).unwrap_or(0);
-    }
-    for (depth, register) in state.registers.iter_mut().enumerate() {
-        if plan.has_register(node, depth) {
-            let modulus = plan.modulus_of(depth);
-            let bits = width(modulus.wrapping_add(1));
-            register.value = value_of(number(bytes, at, bits), modulus);
-            at = at.wrapping_add(bits);
-            register.mark = number(bytes, at, 1) == 1;
-            at = at.wrapping_add(1);
-        }
-    }
-    state
-}
-
-/// The bits of a state of a node: an infinite value stands as the first that is too large.
-pub fn written(plan: &Plan, node: u64, state: &State) -> Bits {
-    let mut bits = NO_BITS;
-    if plan.has_number(node) {
-        bits.put(state.x, width(plan.base));
-    }
-    for (depth, register) in state.registers.iter().enumerate() {
-        if plan.has_register(node, depth) {
-            let modulus = plan.modulus_of(depth);
-            bits.put(
-                register.value.unwrap_or(modulus),
-                width(modulus.wrapping_add(1)),
-            );
-            bits.put(u64::from(register.mark), 1);
-        }
-    }
-    bits
-}
-
-/// Of a state whose number and finite values are all raised by `by`, each in its modulus, what a
-/// node has.
-pub fn shifted(plan: &Plan, node: u64, state: &State, by: u64) -> State {
-    let mut shifted = ZERO_STATE;
-    if plan.has_number(node) {
-        shifted.x = remainder(state.x.wrapping_add(by), plan.base);
-    }
-    for (depth, register) in state.registers.iter().enumerate() {
-        if plan.has_register(node, depth) {
-            shifted.put(depth, register.raised(by, plan.modulus_of(depth)));
-        }
-    }
-    shifted
-}
-
 impl Register {
-    /// The register with its finite value raised by `by`.
+    /// The register with its finite value raised by `by`. One that is too large is infinite.
     pub fn raised(self, by: u64, modulus: u64) -> Register {
+        let mut value = self.value;
+        if let Some(finite) = value {
+            value = value_of(finite, modulus);
+        }
+        if let Some(finite) = value {
+            value = Some(remainder(finite.wrapping_add(by), modulus));
+        }
         Register {
-            value: match self.value {
-                Some(value) => Some(remainder(value.wrapping_add(by), modulus)),
-                None => None,
-            },
+            value,
             mark: self.mark,
         }
     }
 }
 
+impl State {
+    /// The register at a place.
+    pub fn register(&self, place: usize) -> Register {
+        self.registers.get(place).copied().unwrap_or(ZERO)
+    }
+
+    /// Puts a register at a place.
+    pub fn put(&mut self, place: usize, register: Register) {
+        if let Some(old) = self.registers.get_mut(place) {
+            *old = register;
+        }
+    }
+}
+
+/// How many bits a register has whose values are below a modulus.
+fn bits_of(modulus: u64) -> u64 {
+    if modulus == 0 {
+        0
+    } else {
+        width(modulus.wrapping_add(1)).wrapping_add(1)
+    }
+}
+
+/// The register of a modulus that stands in some bytes after `at` bits.
+fn read_register(bytes: &[u8], at: u64, modulus: u64) -> Register {
+    let bits = width(modulus.wrapping_add(1));
+    Register {
+        value: value_of(number(bytes, at, bits), modulus),
+        mark: number(bytes, at.wrapping_add(bits), 1) == 1,
+    }
+}
+
+impl Fields {
+    /// Says below what the values of the register at a place are.
+    pub fn put(&mut self, place: usize, modulus: u64) {
+        if let Some(old) = self.moduli.get_mut(place) {
+            *old = modulus;
+        }
+    }
+
+    /// How many bytes a state has.
+    pub fn bytes(&self) -> u64 {
+        let mut bits = width(self.base);
+        for modulus in &self.moduli {
+            bits = bits.wrapping_add(bits_of(*modulus));
+        }
+        bits.wrapping_add(7) / 8
+    }
+
+    /// The state that some bytes are read as: a number that is too large is 0, and a value that is
+    /// too large is infinite. Bytes of another length are the state of zeros.
+    pub fn read(&self, bytes: &[u8]) -> State {
+        let mut state = ZERO_STATE;
+        if bytes.len() as u64 != self.bytes() {
+            return state;
+        }
+        let mut at = width(self.base);
+        state.x = value_of(number(bytes, 0, at), self.base).unwrap_or(0);
+        for (register, modulus) in state.registers.iter_mut().zip(&self.moduli) {
+            if *modulus > 0 {
+                *register = read_register(bytes, at, *modulus);
+                at = at.wrapping_add(bits_of(*modulus));
+            }
+        }
+        state
+    }
+
+    /// The bits of a state: an infinite value stands as the first that is too large.
+    pub fn written(&self, state: &State) -> Bits {
+        let mut bits = NO_BITS;
+        bits.put(state.x, width(self.base));
+        for (register, modulus) in state.registers.iter().zip(&self.moduli) {
+            if *modulus > 0 {
+                let value = register.value.unwrap_or(*modulus);
+                bits.put(value, width(modulus.wrapping_add(1)));
+                bits.put(u64::from(register.mark), 1);
+            }
+        }
+        bits
+    }
+
+    /// Of a state whose number and finite values are all raised by `by`, each in its modulus, what
+    /// a node of these fields has. A number that is too large is 0, and a value that is too large
+    /// is infinite, as they are read.
+    pub fn shifted(&self, state: &State, by: u64) -> State {
+        let mut shifted = ZERO_STATE;
+        if state.x < self.base {
+            shifted.x = remainder(state.x.wrapping_add(by), self.base);
+        }
+        for (place, modulus) in self.moduli.iter().enumerate() {
+            if *modulus > 0 {
+                shifted.put(place, state.register(place).raised(by, *modulus));
+            }
+        }
+        shifted
+    }
+}
+
 /// The state of a node in a configuration.
 pub fn state_of(config: &[State], node: u64) -> State {
-    match config.get(node as usize) {
-        Some(state) => *state,
-        None => ZERO_STATE,
-    }
+    config.get(node as usize).copied().unwrap_or(ZERO_STATE)
 }

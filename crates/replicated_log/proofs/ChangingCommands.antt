@@ -5,7 +5,7 @@ use Rattle.construction.specs.Runs.{IsState}
 use Rattle.plan_laws.specs.PlanMeaning.{plan_meaning}
 use Rattle.counter_core.specs.Meanings.{Meaning}
 use Rattle.layer_laws.specs.Numbers.{numbers_in}
-use Rattle.layer_laws.proofs.PlanCounters.{borne_by_counter, plans_settle}
+use Rattle.layer_laws.proofs.PlanCounters.{plans_settle}
 use Rattle.replicated_log.specs.ChangingCommands.{changing_layer_over, commands_before}
 use Rattle.replicated_log.specs.ChangingCommands.{ChangingCommandsPutOneOver}
 use Rattle.replicated_log.specs.ChangingCommands.{ChangingLogsAreOneOver, ChangingCommandsPutOne}
@@ -45,9 +45,9 @@ module _ (counter : Meaning) (is_state : (v : ℕ) → State → Type 0) where
 pub changing_commands_put_one : ChangingCommandsPutOne
 changing_commands_put_one plan accepted multiple values keep command faulty borne =
     changing_commands_put_one_over (plan_meaning plan) (IsState plan) (plans_settle plan accepted)
-    multiple values keep command faulty (borne_by_counter plan faulty borne)
+    multiple values keep command faulty borne
 
 pub changing_logs_are_one : ChangingLogsAreOne
 changing_logs_are_one plan accepted multiple values keep command faulty borne =
     changing_logs_are_one_over (plan_meaning plan) (IsState plan) (plans_settle plan accepted)
-    multiple values keep command faulty (borne_by_counter plan faulty borne)
+    multiple values keep command faulty borne

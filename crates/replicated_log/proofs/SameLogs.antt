@@ -14,7 +14,8 @@ use Rattle.construction.specs.Runs.{is_in, IsState}
 use Rattle.plan_laws.specs.PlanMeaning.{plan_meaning}
 use Rattle.counter_core.specs.Meanings.{Meaning, cut}
 use Rattle.counter_core.specs.Overlays.{Layer}
-use Rattle.layer_laws.specs.Counters.{Bears, HasFront, CountsFrom, IsSettling}
+use Rattle.construction.specs.Machines.{CountsFrom}
+use Rattle.layer_laws.specs.Counters.{Bears, HasFront, IsSettling}
 use Rattle.layer_laws.specs.Numbers.{numbers_in}
 use Rattle.layer_laws.specs.Scenes.{Scene, kept_of}
 use Rattle.layer_laws.specs.CounterLayers.{LayerRun, scene, without_layer}
@@ -22,7 +23,7 @@ use Rattle.layer_laws.specs.CounterSlots.{slot_length, AllAre}
 use Rattle.layer_laws.proofs.Settling.{few_of}
 use Rattle.layer_laws.proofs.CounterSteps.{node_steps, common_rest, shown_at}
 use Rattle.layer_laws.proofs.CounterSlots.{counts_of}
-use Rattle.layer_laws.proofs.PlanCounters.{borne_by_counter, plans_settle}
+use Rattle.layer_laws.proofs.PlanCounters.{plans_settle}
 use Rattle.replicated_log.specs.declared.entries.Entry.{Entry}
 use Rattle.replicated_log.specs.EntryLength.{entry_length}
 use Rattle.replicated_log.specs.Logs.{agreement_after, log_layer_over}
@@ -75,7 +76,7 @@ module _ {Kept : Type 0} (counter : Meaning) (is_state : (v : ℕ) → State →
   front : HasFront counter
   front = settling.front
 
-  abbrev counts : CountsFrom counter is_state faulty (without_layer counter run) counter.bound
+  abbrev counts : CountsFrom counter faulty (without_layer counter run) counter.bound
   counts = counts_of counter is_state layer settling faulty borne first run is
 
   whole : counter.modulus % e ≡ 0
@@ -193,4 +194,4 @@ logs_are_one_over counter is_state settling multiple said faulty borne first run
 pub logs_are_one : LogsAreOne
 logs_are_one plan accepted multiple said faulty borne =
     logs_are_one_over (plan_meaning plan) (IsState plan) (plans_settle plan accepted) multiple said
-    faulty (borne_by_counter plan faulty borne)
+    faulty borne

@@ -16,7 +16,8 @@ use Rattle.counting.proofs.Places.{one_fails}
 use Rattle.plan_laws.specs.PlanMeaning.{plan_meaning}
 use Rattle.counter_core.specs.Meanings.{Meaning, cut}
 use Rattle.counter_core.specs.Overlays.{Layer}
-use Rattle.layer_laws.specs.Counters.{Bears, HasFront, CountsFrom, IsSettling}
+use Rattle.construction.specs.Machines.{CountsFrom}
+use Rattle.layer_laws.specs.Counters.{Bears, HasFront, IsSettling}
 use Rattle.layer_laws.specs.Numbers.{numbers_in}
 use Rattle.layer_laws.specs.Scenes.{Scene, kept_of}
 use Rattle.layer_laws.specs.CounterLayers.{LayerRun, scene, without_layer}
@@ -26,7 +27,7 @@ use Rattle.layer_laws.proofs.Settling.{few_of}
 use Rattle.layer_laws.proofs.CounterCuts.{configuration_at}
 use Rattle.layer_laws.proofs.CounterSteps.{node_steps, shows_rest, common_rest, shown_at}
 use Rattle.layer_laws.proofs.CounterSlots.{counts_of, slots_agree_over}
-use Rattle.layer_laws.proofs.PlanCounters.{borne_by_counter, plans_settle}
+use Rattle.layer_laws.proofs.PlanCounters.{plans_settle}
 use Rattle.replicated_log.specs.declared.entries.Entry.{Entry}
 use Rattle.replicated_log.specs.EntryLength.{entry_length, owner_at, command_at}
 use Rattle.replicated_log.specs.LogContent.{LogContent}
@@ -90,7 +91,7 @@ module _ {Kept : Type 0} (counter : Meaning) (is_state : (v : ℕ) → State →
 
   module _ (t : ℕ) (lo : counter.bound ≤ t) (hi : t + e < length run)
       (begins : AllAre counter faulty (scene run t).states e 0) where
-    abbrev counts : CountsFrom counter is_state faulty (without_layer counter run) counter.bound
+    abbrev counts : CountsFrom counter faulty (without_layer counter run) counter.bound
     counts = counts_of counter is_state layer settling faulty borne first run is
 
     zero_rest : counts.output t % e ≡ 0
@@ -276,4 +277,4 @@ every_slot_puts_one_over counter is_state settling multiple said faulty borne fi
 pub every_slot_puts_one : EverySlotPutsOne
 every_slot_puts_one plan accepted multiple said faulty borne =
     every_slot_puts_one_over (plan_meaning plan) (IsState plan) (plans_settle plan accepted)
-    multiple said faulty (borne_by_counter plan faulty borne)
+    multiple said faulty borne

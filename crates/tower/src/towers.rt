@@ -1,10 +1,11 @@
 ghost use Rattle.std.specs.Prelude.{◌≡◌, replicate, IfOk};
-ghost use Rattle.construction.specs.Plans.{plan_nodes};
+ghost use Rattle.construction.specs.Plans.{plan_nodes, plan_low};
 ghost use Rattle.construction.specs.Runs.{Settles};
 ghost use Rattle.plan_numbers.specs.Premises.{IsAccepted};
 ghost use Rattle.counter_core.specs.Working.{IsWorkFor};
 ghost use Rattle.plan_laws.specs.PlanMeaning.{plan_meaning, IsInRange};
-ghost use Rattle.plan_laws.proofs.PlanCounter.{plan_sizes, plan_stays, plan_ignores, plan_zero};
+ghost use Rattle.plan_laws.proofs.PlanCounter.{plan_sizes, plan_lows, plan_stays, plan_ignores};
+ghost use Rattle.plan_laws.proofs.PlanCounter.{plan_zero};
 ghost use Rattle.plan_laws.proofs.RunLaws.{plan_settles};
 
 use crate::steps::step_in;
@@ -82,6 +83,8 @@ impl Counter for Tower {
 
     ghost meaning = { plan_meaning };
 
+    ghost lowest = { plan_low };
+
     ghost in_range = { IsInRange };
 
     fn nodes(&self) -> u32 {
@@ -122,6 +125,8 @@ impl Counter for Tower {
     }
 
     ghost sizes = { plan_sizes };
+
+    ghost lows_are_within = { plan_lows };
 
     ghost stays_in_range = { plan_stays };
 

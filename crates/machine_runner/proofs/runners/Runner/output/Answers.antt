@@ -1,6 +1,7 @@
 use Rattle.std.proofs.Common.{◌≡◌, ℕ, ◌<◌, List, length, sym, ap, ◌∙◌, subst, arith}
 use Rattle.sync_types.specs.States.{State}
 use Rattle.construction.specs.Steps.{state_of}
+use Rattle.machines.proofs.Fronts.{whole_front}
 use Rattle.machine_runner.specs.Runners.{Running, states_of}
 use Rattle.machine_runner.proofs.Keeping.{state_in}
 use Rattle.machine_runner.proofs.Places.{read_at}
@@ -29,9 +30,10 @@ output-requires-clause-state g c =
     let is : c.index.result.now ≡ state_of c.self.inside.states.current c.args.v =
     read_at c.self.inside.room.heard.items c.args.v c.index.result.now within c.index.ensures
     ∙ ap (λ (xs : List State). state_of xs c.args.v) kept.laid in
-    state_in (g.M.Machine.machine c.self.inside.machine.now) c.self.inside.script
+    whole_front (g.M.Machine.machine c.self.inside.machine.now) c.facts.ensures c.args.v lt _
+    (state_in (g.M.Machine.machine c.self.inside.machine.now) c.self.inside.script
     c.self.inside.states.shape c.self.inside.states.current c.args.v _ kept.read
-    kept.shape kept.size c.facts-2.ensures.current lt is
+    kept.shape kept.size c.facts-2.ensures.current lt is)
 
 pub returns-clause-value : goal.returns-clause-value
 returns-clause-value g c =

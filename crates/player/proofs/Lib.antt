@@ -1,0 +1,13 @@
+pub mod ReadOver
+pub mod LiesTold
+pub mod Truth
+pub mod Taken
+pub mod LayerSteps
+pub mod LayerHears
+pub mod Laid
+pub mod CanTurns
+pub mod StepHeard
+pub mod Keeping
+pub mod Costs
+pub mod Anew
+pub mod Bare
