@@ -1,6 +1,6 @@
 -- The text of an attack is read as its script if no line of it is refused.
-use Rattle.std.proofs.Common.{◌≡◌, ℕ, ◌<◌, ◌≤◌, false, List, [], ◌∷◌, ◌++◌, length, map, Option}
-use Rattle.std.proofs.Common.{Some, None, Ok, refl, sym, ap, ◌∙◌, append_assoc, arith, nat_lt}
+use Rattle.std.proofs.Common.{◌≡◌, ℕ, ◌^◌, ◌<◌, ◌≤◌, false, List, [], ◌∷◌, ◌++◌, length, map}
+use Rattle.std.proofs.Common.{Option, Some, None, Ok, refl, sym, ap, ◌∙◌, append_assoc, arith, nat_lt}
 use Rattle.std.specs.Prelude.{decimal, codes, true}
 use Rattle.std.specs.List.{flat_map, AllByRecursion}
 use Rattle.std.proofs.lemmas.Bool.{le-ltb}
@@ -91,10 +91,10 @@ module _ (f : ℕ) (s : Script) (r a b : ℕ) (few : r ≤ most_rounds) (reach :
     kind = refl;
   }
 
-  first_fits : a < 2 ^ 64
+  first_fits : a < 10 ^ 15
   first_fits = omega (arith, few, order, shown)
 
-  last_fits : b < 2 ^ 64
+  last_fits : b < 10 ^ 15
   last_fits = omega (arith, few, shown)
 
   show_is : IsLineOf kind.Show (show_line a b) (decimal a ∷ decimal b ∷ [])

@@ -76,7 +76,9 @@ impl Reason for AttackReason {
     }
 
     fn code(&self) -> u8 {
-        NO_PLAN
+        match *self {
+            AttackReason::Boosting(_) | AttackReason::Halving(_) => NO_PLAN,
+        }
     }
 
     fn put_line<K: Sink>(&self, sink: &mut K) -> Result<(), WriteFault> {
