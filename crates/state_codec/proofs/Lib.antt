@@ -17,6 +17,7 @@ pub mod LevelModuli
 pub mod PlanStates
 pub mod Further
 pub mod NoNodes
+pub mod Shifts
 pub mod Windows
 pub mod PackedFields
 pub mod Configurations

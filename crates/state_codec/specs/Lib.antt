@@ -5,6 +5,7 @@ pub mod Writing
 pub mod Reading
 pub mod Texts
 pub mod Cursors
+pub mod Waiting
 pub mod Kept
 pub mod ShapesKept
 pub mod Packs

@@ -6,12 +6,13 @@ ghost use Rattle.state_codec.specs.Shapes.{Fields, register_bits, registers_bits
 ghost use Rattle.state_codec.specs.Shapes.{bytes_in, IsFields};
 ghost use Rattle.state_codec.specs.Ranges.{InRange};
 ghost use Rattle.state_codec.specs.Writing.{written, bits_of_registers};
-ghost use Rattle.state_codec.specs.Cursors.{so_far};
+ghost use Rattle.state_codec.specs.Waiting.{said_so_far, bits_so_far};
 ghost use Rattle.state_codec.specs.Reading.{read};
 
+use crate::pieces::{Pending, SizedNumber, Waiting};
 use crate::registers::{RegisterField, below, set_zero};
 use crate::widths::bit_length;
-use crate::writer::{Pending, SizedNumber, put};
+use crate::writer::{append, put};
 use byteorder::{BigEndian, ByteOrder};
 use std::alloc::Global;
 use std::marker::Model;
@@ -150,24 +151,24 @@ impl Fields {
         }
     }
 
-    /// Writes the registers of a state after what was written.
-    fn put_registers(&self, out: &mut [u8], start: Pending, state: &NodeState) -> Pending
+    /// Puts the registers of a state after what waits.
+    fn put_registers(&self, out: &mut [u8], start: Waiting, state: &NodeState) -> Waiting
         requires range { InRange self.now state.now }
-        requires space { 8 * start.at + start.count + registers_bits self.now.moduli
+        requires space { bits_so_far start + registers_bits self.now.moduli
             ≤ 8 * length out.old }
         ensures length { length out.new ≡ length out.old }
-        ensures text { so_far out.new result.at result.count result.held
-            ≡ so_far out.old start.at start.count start.held
+        ensures text { said_so_far out.new result
+            ≡ said_so_far out.old start
             ++ bits_of_registers self.now.moduli state.now.registers }
-        ensures place { 8 * result.at + result.count
-            ≡ 8 * start.at + start.count + registers_bits self.now.moduli }
+        ensures place { bits_so_far result
+            ≡ bits_so_far start + registers_bits self.now.moduli }
     {
-        let mut pending = start;
+        let mut waiting = start;
         for i in 0..self.moduli.len() {
             let number = self.register(i).bits(state.reg(i));
-            pending = put(out, pending, number);
+            waiting = append(out, waiting, number);
         }
-        pending
+        waiting
     }
 
     /// Writes the bytes of a state into `out`, which has just their length.
@@ -176,7 +177,7 @@ impl Fields {
         requires length { length out.old ≡ bytes_in self.now }
         ensures { out.new ≡ written self.now state.now }
     {
-        let start = Pending {
+        let nothing = Pending {
             at: 0,
             held: 0,
             count: 0,
@@ -185,14 +186,18 @@ impl Fields {
             size: self.front,
             value: state.x(),
         };
-        let front = put(out, start, number);
+        let front = Waiting {
+            pending: nothing,
+            number,
+        };
         let end = self.put_registers(out, front, state);
         let padding = self.size.div_ceil(8) * 8 - self.size;
         let zeros = SizedNumber {
             size: padding,
             value: 0,
         };
-        let _whole = put(out, end, zeros);
+        let whole = append(out, end, zeros);
+        let _none = put(out, whole.pending, whole.number);
     }
 
     /// Reads a state from any bytes into `out`, which has the fields' depth. Bytes that are not

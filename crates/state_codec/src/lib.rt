@@ -11,6 +11,7 @@ mod fields;
 pub mod laws;
 mod making;
 mod packed;
+mod pieces;
 mod registers;
 mod shapes;
 mod texts;

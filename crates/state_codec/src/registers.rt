@@ -6,7 +6,7 @@ ghost use Rattle.state_codec.specs.Ranges.{IsField};
 ghost use Rattle.state_codec.specs.Writing.{bits_of_register};
 ghost use Rattle.state_codec.specs.Reading.{below, register_from};
 
-use crate::writer::SizedNumber;
+use crate::pieces::SizedNumber;
 use byteorder::{BigEndian, ByteOrder};
 use sync_types::{NodeState, Reg};
 
@@ -58,8 +58,7 @@ impl RegisterField {
         }
         let first = from / 8;
         let word = BigEndian::read_u64(&bytes[first..first + 8]);
-        let behind = 64 - (from % 8) as u32 - self.size;
-        let both = (word >> behind) & ((1 << self.size) - 1);
+        let both = (word << (from % 8) as u32) >> (64 - self.size);
         Reg {
             a: below(self.modulus, both / 2),
             d: both % 2 == 1,

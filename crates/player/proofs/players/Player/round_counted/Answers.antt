@@ -54,8 +54,10 @@ tell_new_puppets-requires-clause-config g c =
 
 pub tell_new_puppets-requires-clause-own : goal.tell_new_puppets-requires-clause-own
 tell_new_puppets-requires-clause-own g c =
-    subst (λ (s : FaultIds). AreOwn c.self.inside.script s.ids c.step_all.new.room.lies.items)
-    c.era_faulty.ensures c.step_all.ensures.own
+    subst (AreOwn c.self.inside.script (faulty_of_era c.self.inside.script c.self.inside.era))
+    (sym c.deref_mut.ensures.value)
+    (subst (λ (s : FaultIds). AreOwn c.self.inside.script s.ids c.step_all.new.room.lies.items)
+    c.era_faulty.ensures c.step_all.ensures.own)
 
 pub invariant_of-self : goal.invariant_of-self
 invariant_of-self g c =

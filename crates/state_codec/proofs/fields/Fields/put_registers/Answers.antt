@@ -5,7 +5,7 @@ use Rattle.sync_types.specs.declared.states.Reg.{Reg}
 use Rattle.state_codec.specs.Shapes.{Fields, register_bits, registers_bits}
 use Rattle.state_codec.specs.Ranges.{IsField}
 use Rattle.state_codec.specs.Writing.{bits_of_register}
-use Rattle.state_codec.specs.Cursors.{so_far}
+use Rattle.state_codec.specs.Waiting.{said_so_far}
 use Rattle.state_codec.proofs.RegisterSteps.{registers_bits_at, registers_bits_of_none, put_step}
 use Rattle.state_codec.proofs.RegisterSteps.{put_end}
 use Rattle.state_codec.proofs.fields.Fields.put_registers.Goals as goal
@@ -19,8 +19,8 @@ bits-number-requires c =
     (subst (λ (r : Reg). IsField (slice_index c.args.self.now.moduli c.loop-i.i) r)
     (sym c.reg.ensures) (c.requires.range.values c.loop-i.i lt))
 
-pub put-pending-requires : goal.put-pending-requires
-put-pending-requires c =
+pub append-waiting-requires : goal.append-waiting-requires
+append-waiting-requires c =
     let moduli = ap (λ (f : Fields). length f.moduli) c.self.view_is in
     let lt : c.loop-i.i < length c.args.self.now.moduli =
     omega (arith, c.loop-i-test.true, moduli) in
@@ -46,15 +46,15 @@ loop-i-preserved c =
     let long = c.bits-number.ensures.size ∙ (c.register.result.sized
     ∙ ap register_bits c.register.ensures) in
     record {
-      size_kept = c.put-pending.ensures.length ∙ c.loop-i.invariant.size_kept;
+      size_kept = c.append-waiting.ensures.length ∙ c.loop-i.invariant.size_kept;
       text = put_step ms c.args.state.now.registers v c.reg.result _ _ _ lt in_state c.reg.ensures
-          (c.put-pending.ensures.text ∙ ap (λ (y : List Bool). so_far c.loop-i.out
-          c.loop-i.pending.at c.loop-i.pending.count c.loop-i.pending.held ++ y)
+          (c.append-waiting.ensures.text ∙ ap (λ (y : List Bool). said_so_far c.loop-i.out
+          c.loop-i.waiting ++ y)
           (c.bits-number.ensures.text ∙ ap (λ m. bits_of_register m c.reg.result)
           c.register.ensures)) c.loop-i.invariant.text;
       place = omega (
         arith,
-        c.put-pending.ensures.place,
+        c.append-waiting.ensures.place,
         c.loop-i.invariant.place,
         long,
         registers_bits_at ms v lt,

@@ -1,10 +1,9 @@
 use Rattle.std.proofs.Common.{arith, ℕ, ◌≡◌, ◌≤◌, ◌<◌, ◌+◌, ◌-◌, ◌*◌, ◌/◌, ◌%◌, ◌^◌, sym, ap, ◌∙◌}
-use Rattle.std.proofs.Common.{List, Bool, false, cond, drop, take, length, ◌==◌, bit_and}
+use Rattle.std.proofs.Common.{List, Bool, false, cond, drop, take, length, ◌==◌}
 use Rattle.std.specs.Prelude.{slice_index_or}
-use Rattle.std.proofs.Math.Nat.{mod-eq_of_lt, pow-le-pow_right}
+use Rattle.std.proofs.Math.Nat.{mod-lt}
 use Rattle.std.proofs.lemmas.Bool.{ne_eqb}
 use Rattle.std.proofs.lemmas.List.{length-drop}
-use Rattle.std.proofs.lemmas.Nat.{and_mask}
 use Rattle.byteorder.specs.Endian.{big_from}
 use Rattle.sync_types.specs.States.{zero_register}
 use Rattle.construction.specs.Widths.{width}
@@ -13,10 +12,11 @@ use Rattle.state_codec.specs.Reading.{below, full_register}
 use Rattle.state_codec.proofs.Bytes.{length-bits_of_bytes}
 use Rattle.state_codec.proofs.FullNumbers.{full_size}
 use Rattle.state_codec.proofs.RegisterSteps.{value_with_mark}
+use Rattle.state_codec.proofs.Shifts.{shifted_cut}
 use Rattle.state_codec.proofs.Windows.{field}
 use Rattle.state_codec.proofs.registers.RegisterField.read.Goals as goal
 
--- the word after the field is shifted out, and what stands before it masked
+-- what stands before the field is shifted out of the word, and what stands after it
 pub returns : goal.returns
 returns c =
     let bytes = c.args.bytes.now in
@@ -29,21 +29,18 @@ returns c =
     let most : size ≤ 56 = omega (arith, c.args.self.short) in
     let within : from / 8 + 8 ≤ length bytes = omega (arith, c.requires) in
     let r : ℕ = 64 - from % 8 - size in
-    let power : 2 ^ size ≤ 2 ^ 56 = pow-le-pow_right (omega arith) most in
-    let small : 1 * 2 ^ size < 18446744073709551616 = omega (arith, power) in
-    let one : 1 * 2 ^ size % 18446744073709551616 ≡ 2 ^ size = mod-eq_of_lt small ∙ omega arith in
     let eight : from / 8 + 8 - from / 8 ≡ 8 = omega arith in
     let word : c.read_u64-word.result ≡ big_from 0 8 (take 8 (drop (from / 8) bytes)) =
     c.read_u64-word.ensures ∙ ap (λ k. big_from 0 8 (take k (drop (from / 8) bytes))) eight in
     let bs : List Bool = drop from (bits_of_bytes bytes) in
-    let n : ℕ = bit_and (c.read_u64-word.result / 2 ^ r)
-    (1 * 2 ^ size % 18446744073709551616 - 1) in
+    let n : ℕ = c.read_u64-word.result * 2 ^ (from % 8) % 2 ^ 64 / 2 ^ (64 - size) in
+    let eight_most : from % 8 < 8 = mod-lt from (omega arith) in
+    let all : from % 8 + size + r ≡ 64 = omega (arith, eight_most, most) in
     let loaded : n ≡ number_of (take size bs) =
-    ap (λ k. bit_and (c.read_u64-word.result / 2 ^ r) (k - 1)) one
-    ∙ (and_mask (c.read_u64-word.result / 2 ^ r) size
+    shifted_cut c.read_u64-word.result (from % 8) size r all
     ∙ (ap (λ k. k / 2 ^ r % 2 ^ size) word
     ∙ sym (field bytes from size (λ j. let fits = c.type_inv.bytes j in omega (arith, fits))
-    most within))) in
+    most within)) in
     let behind : w < length bs =
     omega (
       arith,
