@@ -1,9 +1,0 @@
-use Rattle.std.proofs.Common.{◌≡◌}
-use Rattle.attack.specs.Lean.{leaner}
-use Rattle.attack.proofs.leaning.Target.lean.Given as goal
-
-abbrev pub invariant-loop-i : goal.invariant-loop-i
-invariant-loop-i g l =
-    l.last
-    ≡ leaner (g.M.Machine.machine l.self.now.machine) l.self.now.shape l.self.now.first_line
-    l.count l.fn.best l.i
