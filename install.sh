@@ -2,7 +2,7 @@
 # Installs counterlab and the programs beside it, their manual pages, and the library of a node.
 #
 #     ./install.sh PREFIX               as in: ./install.sh ~/.local
-#     ./install.sh --uninstall PREFIX   removes what it installed there, and nothing else
+#     ./install.sh --uninstall PREFIX   removes what it installed, and folders that are then empty
 #     ./install.sh --help
 #
 # It takes the kit (`rt version`), the toolchain that proves and builds; without it take the tar
@@ -39,8 +39,11 @@ list=$prefix/share/counterlab/installed
 remove() { # the files that are named, one a line, below the prefix, and folders that are then empty
     while read -r file; do
         case $file in
-        /* | *..*) fail "$list names $file, which it never wrote: nothing more is removed" ;;
+        '') continue ;;
+        /* | *..* | .) fail "$list names $file, which it never wrote: nothing more is removed" ;;
         esac
+        [ ! -d "$prefix/$file" ] || [ -L "$prefix/$file" ] ||
+            fail "$list names the folder $file, which it never wrote: nothing more is removed"
         rm -f "$prefix/$file"
         folder=$(dirname "$file")
         while [ "$folder" != . ] && rmdir "$prefix/$folder" 2> /dev/null; do
@@ -57,6 +60,7 @@ if [ $verb = uninstall ]; then
     exit 0
 fi
 
+command -v ar > /dev/null || fail "there is no ar here, which makes the library"
 command -v rt > /dev/null ||
     fail "the kit is not here (rt); without it take a tar that package.sh made"
 page=$(rt doc) # in the kit's folder
@@ -80,8 +84,9 @@ below() {
 is_fresh() { # a crate's built file, that no source of it or of a crate below is newer than
     [ -f "$2" ] || return 1
     for used in $(below "$1"); do
-        [ -z "$(find "crates/$used/src" "crates/$used/specs" "crates/$used/proofs" -newer "$2" \
-            -type f 2> /dev/null | head -n 1)" ] || return 1
+        # folders too: one from which a file was taken is newer
+        [ -z "$(find crates.txt HANDLES "crates/$used/src" "crates/$used/specs" \
+            "crates/$used/proofs" -newer "$2" 2> /dev/null | head -n 1)" ] || return 1
     done
 }
 
@@ -138,7 +143,7 @@ includedir=${prefix}/include
 
 Name: counterlab
 Description: the step of a node of a self-stabilising Byzantine synchronous counter
-Libs: -L${libdir} -lcounterlab
+Libs: -L${libdir} -l:libcounterlab.a
 Cflags: -I${includedir}
 PC
 echo "Version: $version" >> "$room/counterlab.pc"
@@ -171,9 +176,8 @@ for file in Cargo.toml build.rs src/lib.rs; do
     put 644 "bindings/rust/$file" "share/counterlab/rust/$file"
 done
 echo share/counterlab/installed >> "$room/installed"
-if [ -f "$list" ]; then
-    grep -vxF -f "$room/installed" "$list" > "$room/gone" || true
-    remove < "$room/gone"
-fi
+: > "$room/gone"
+[ ! -f "$list" ] || grep -vxF -f "$room/installed" "$list" > "$room/gone" || true
 install -D -m 644 "$room/installed" "$list"
+remove < "$room/gone"
 echo "installed in $prefix"

@@ -3,9 +3,11 @@
  * others in the place of `call`. It steps each node of PLAN once on a packet of drawn bytes and
  * prints the sum of the states, and how many bytes of the arena and of the stack were used at most.
  *
+ * In the folder of the tar:
+ *
  *     aarch64-linux-gnu-gcc -O2 -ffreestanding -fno-tree-loop-distribute-patterns \
- *         -nostdlib -static -I bindings -DARENA=65536 '-DPLAN="halving 1\ngroup 4 1 10\nend\n"' \
- *         bare.c bench/library/arena.c libcounterlab_c.a -lgcc */
+ *         -nostdlib -static -I include -DARENA=65536 '-DPLAN="halving 1\ngroup 4 1 10\nend\n"' \
+ *         arm64/bare.c arm64/arena.c lib/libcounterlab_c.a -lgcc */
 #include "counterlab.h"
 
 #ifndef PLAN

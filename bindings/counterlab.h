@@ -1,5 +1,6 @@
-/* The proved step of a node, for C. Link libcounterlab.a, which install.sh makes, by
- * `pkg-config --libs counterlab`; or libcounterlab_c.a, and the kit's c/liblibc_c.a after it.
+/* The proved step of a node, for C99 and later, and C++. Link libcounterlab.a, which install.sh
+ * makes, by `pkg-config --libs counterlab`; or libcounterlab_c.a, and after it the kit's
+ * c/liblibc_c.a.
  *
  * Each function reads its plan's text anew and keeps nothing: no call hangs on another, calls from
  * several threads need no lock, nothing has to be freed. Any bytes and any numbers may be given.

@@ -42,6 +42,7 @@ NOT_RUN = [".ci/run", "NAME", "FOLDER", "examples/udp/run.py", "bench/library/tr
 # what takes more than a second or two, or hangs on more than the programs and a shell
 NOT_QUICK = ["gcc", "rt doc", "mkfifo", "deployed_nodes.py", "drawn_runs.py", "vectors.py", "time ",
              "parent.py", "out/try_"]
+LEFT_OUT = (".git", "out", "__pycache__", "mine")  # folders
 NOT_READ = (".rt", ".antt", ".edit")  # what no command of a page reads: the sources
 PICTURES = pathlib.Path("docs/pictures")
 ARCHIVE = "crates/counterlab_c/out/libcounterlab_c.a"
@@ -129,7 +130,7 @@ def files():
         names = []
     if not any(names):
         for at, folders, here in os.walk(TOP):
-            folders[:] = [it for it in folders if it not in (".git", "out", "__pycache__")]
+            folders[:] = [it for it in folders if it not in LEFT_OUT]
             names += [os.path.relpath(os.path.join(at, it), TOP) for it in here]
     return [it for it in names if it and not it.endswith(NOT_READ) and (TOP / it).is_file()]
 

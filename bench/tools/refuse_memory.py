@@ -7,7 +7,7 @@
 A row is an input with its answer, NAME.txt and NAME.WORDS.out in crates/try_faults/data/short;
 without names all rows are taken. The program `try_faults` gives a row to the workbench over a
 source and a sink that never fail, after so many allocations of its own. With `--halving` the
-program is `try_random_halving`, and its one row a call of a node of a halving plan. The program is run
+program is `try_random`, and its one row a call of a node of a halving plan. The program is run
 by `rt try --fail-alloc N --cases`, which refuses its Nth allocation and needs no proof: once for
 each of 0 to N - 1 allocations before, so that each allocation of the row is refused in one run, if
 it has fewer than about N - 10.
@@ -26,7 +26,7 @@ import tempfile
 
 TOP = pathlib.Path(__file__).resolve().parents[2]
 CRATE = TOP / "crates" / "try_faults"
-HALVING = TOP / "crates" / "try_random_halving"
+HALVING = TOP / "crates" / "try_random"
 ROWS = CRATE / "data" / "short"
 HALVING_ROW = "one_packet.halvinglab"
 REFUSED = "10 0"

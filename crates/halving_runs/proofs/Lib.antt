@@ -6,6 +6,7 @@ pub mod Holds
 pub mod ReadOver
 pub mod Playable
 pub mod LayerKept
+pub mod EveryRun
 pub mod LayerPlays
 pub mod Read
 pub mod ReadLayers

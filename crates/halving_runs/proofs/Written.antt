@@ -3,13 +3,17 @@ use Rattle.std.proofs.Common.{◌≡◌, ℕ, List, refl, subst, sym}
 use Rattle.std.specs.Prelude.{Result, Ok, Err, MatchResult}
 use Rattle.std.specs.Result.{IsErrAnd}
 use Rattle.machines.specs.Machines.{Machine}
+use Rattle.halving_plan.specs.Laws.{machine_in}
+use Rattle.halving_plan.specs.Plans.{HalvingNumbers}
 use Rattle.machine_runner.specs.ShownTexts.{shown_text}
 use Rattle.machine_runner.specs.Runners.{Running}
 use Rattle.machine_runner.specs.FirstLocked.{LockTest}
+use Rattle.machine_runner.specs.Locks.{is_locked}
 use Rattle.adversary_script.specs.Scripts.{Script}
 use Rattle.counter_core.specs.Meanings.{Meaning}
 use Rattle.counter_core.specs.Overlays.{Layer}
 use Rattle.layer_laws.specs.Positions.{Position, begun, IsBegun}
+use Rattle.player.specs.Counters.{machine_counter}
 use Rattle.layer_runner.specs.PlayedTexts.{Wording, played_text, text_of}
 use Rattle.texts.specs.Growth.{SinkState, Wrote, Cut}
 use Rattle.halving_runs.specs.declared.errors.PlayError.{PlayError}
@@ -38,6 +42,15 @@ faulted (Err e) text old new is cut =
     subst (λ (x : PlayError). IsWritten (Err x) text old new) (sym is) cut
 
 -- ---- of a play that has begun
+
+-- on the machine of a plan that is another one's
+pub begun_on : {Kept : Type 0} {made plan : HalvingNumbers} → made ≡ plan → (script : Script)
+    (layer : Layer Kept) (kept : List Kept) (p : Position Kept)
+    → p ≡ begun (machine_counter (machine_in made)) (is_locked (machine_in made)) script layer kept
+    → p ≡ begun (machine_counter (machine_in plan)) (is_locked (machine_in plan)) script layer kept
+begun_on same script layer kept p is =
+    subst (λ (m : HalvingNumbers). p
+    ≡ begun (machine_counter (machine_in m)) (is_locked (machine_in m)) script layer kept) same is
 
 module _ {Kept : Type 0} (wording : Wording Kept) (counter : Meaning) (locked : LockTest)
     (script : Script) (layer : Layer Kept) (kept : List Kept) (p : Position Kept)

@@ -7,4 +7,5 @@ pub mod RunTexts
 pub mod RunPromises
 pub mod HoldPromises
 pub mod LayerPromises
+pub mod EveryRun
 pub mod ScriptInputs

@@ -4,6 +4,7 @@
 ghost use Rattle.halving_runs.specs.RunPromises.{RunsKeepPromise};
 ghost use Rattle.halving_runs.specs.HoldPromises.{SlotsKeepPromise};
 ghost use Rattle.halving_runs.specs.LayerPromises.{LayersKeepPromise};
+ghost use Rattle.halving_runs.specs.EveryRun.{EveryRunKeeps};
 ghost use Rattle.halving_runs.specs.ScriptInputs.{ScriptInputsAreRead};
 
 use adversary_script::laws::{read_scripts_have_texts, script_texts_read_back};
@@ -50,6 +51,15 @@ pub fn runs_keep_promise()
     one_holder();
     at_most_one_in_a_line();
 }
+
+/// Beyond scripts, of every run of an accepted plan, with a layer or without one, whatever its
+/// start, its lies and what its nodes keep, from the bound on: at most one correct node holds by a
+/// slot table; each slot of consensus ends with one decision, also when inputs change from round to
+/// round, of firing with all firing or none, and of a log with one entry that all correct nodes
+/// put, also when commands change.
+pub fn every_run_keeps()
+    ensures { EveryRunKeeps }
+{}
 
 /// The texts of an accepted plan and of a script for it, one after the other, are read as these,
 /// and so they are with the text of a slot table, of inputs to agree on, of requests to fire or of

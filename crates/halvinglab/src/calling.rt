@@ -11,6 +11,7 @@ ghost use Rattle.halving_texts.specs.NodePromises.{AnyHalvingInputs};
 ghost use Rattle.halving_runs.specs.RunPromises.{RunsKeepPromise};
 ghost use Rattle.halving_runs.specs.HoldPromises.{SlotsKeepPromise};
 ghost use Rattle.halving_runs.specs.LayerPromises.{LayersKeepPromise};
+ghost use Rattle.halving_runs.specs.EveryRun.{EveryRunKeeps};
 ghost use Rattle.halving_runs.specs.ScriptInputs.{ScriptInputsAreRead};
 ghost use Rattle.halvinglab.specs.Conduct.{DoesAsked, KeptAt, asked_of};
 ghost use Rattle.halvinglab.specs.Worked.{WorkedValues};
@@ -23,7 +24,7 @@ use crate::whole_word::answer_all;
 use crate::worked::worked_values;
 use edge_io::{Sink, Source};
 use halving_plan::laws::every_plan_settles;
-use halving_runs::laws::{runs_keep_promise, script_inputs_read_back};
+use halving_runs::laws::{every_run_keeps, runs_keep_promise, script_inputs_read_back};
 use halving_texts::header_laws::header_texts_read_back;
 use halving_texts::node_laws::{any_inputs, calls_are_processes, halving_nodes_keep_promise};
 use halving_texts::{halving_texts_read_back, tables_read_back};
@@ -39,7 +40,7 @@ use std::alloc::Global;
 /// agree on, requests to fire or what a log has, and in place of rows write a line of each slot
 /// that counts: what its nodes decide, which of them fire, or the entry that they put. `node` reads
 /// a header, which has at most 2^20 bytes, and then packets, and writes the node's cell when the
-/// header has been read, and one after each packet before it reads on. `--help` and `--version`,
+/// header has been read, and one after each packet before it asks for more. `--help` and `--version`,
 /// alone, read nothing, and write what they say.
 ///
 /// `Usage` comes exactly if the words ask for nothing; nothing was read or written then. `Input`
@@ -106,6 +107,14 @@ pub fn halvinglab<S: Source, K: Sink>(
     // configuration that is shown, and its words say so.
     ensures layers { LayersKeepPromise }
 
+    // Beyond scripts, of every run of an accepted plan, with a layer or without one, whatever its
+    // start, its lies and what its nodes keep. From T on at most one correct node holds; each slot
+    // that begins later ends with one decision, the common input of the round before it if there is
+    // one; with all firing or none, as they requested in the round before it if they did the same;
+    // and with one entry in all logs, which its owner commands if it is correct, so that logs grow
+    // as one. Inputs and commands may change from round to round.
+    ensures every_run { EveryRunKeeps }
+
     // N calls of `node`, over a window of rounds that begins in each at a packet of its own: if
     // each is given the cells that the correct ones write, and any bytes as those of few faulty
     // ones, what they write is a run of the plan, and counts. Once they are locked they stay so
@@ -130,6 +139,7 @@ pub fn halvinglab<S: Source, K: Sink>(
     worked_values();
     script_inputs_read_back();
     runs_keep_promise();
+    every_run_keeps();
     halving_nodes_keep_promise();
     calls_are_processes();
     header_texts_read_back();

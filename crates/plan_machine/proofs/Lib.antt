@@ -1,3 +1,4 @@
+pub mod WiderStates
 pub mod PlanMachines
 pub mod Sound
 pub mod Kept

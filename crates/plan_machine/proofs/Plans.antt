@@ -7,7 +7,6 @@ use Rattle.construction.specs.Runs.{IsToleratedBy, IsLocked}
 use Rattle.plan_numbers.specs.Premises.{IsAccepted}
 use Rattle.machines.specs.Laws.{IsSound}
 use Rattle.machines.specs.Machines.{Machine}
-use Rattle.machines.specs.Machines as machines
 use Rattle.plan_machine.specs.PlanMachines.{machine_of_plan}
 use Rattle.plan_machine.proofs.PlanMachines.{are_alike}
 use Rattle.plan_machine.proofs.Sound.{accepted_are_sound}
@@ -18,7 +17,6 @@ use Rattle.node_stepper.proofs.Follows as follows
 use Rattle.node_stepper.proofs.Heard as heard
 use Rattle.node_stepper.proofs.Runs as runs
 use Rattle.node_stepper.proofs.Settled as settled
-use Rattle.node_stepper.proofs.States as states
 use Rattle.plan_machine.specs.NodeRuns.{IsCorrect, states_in}
 use Rattle.plan_machine.specs.Laws.{AnyLiesConnect, BorneLeavesSome, NodesRun, NodesSettle}
 use Rattle.plan_machine.specs.Laws.{NodesLock, NodesStayLocked, HeardNodesStayLocked}
@@ -42,8 +40,7 @@ any_lies_connect plan accepted faulty starts sent begins rounds begun =
 
 pub borne_leaves_some : BorneLeavesSome
 borne_leaves_some plan accepted faulty borne =
-    correct.some_left (machine_of_plan plan) (accepted_are_sound plan accepted) faulty
-    (((are_alike plan accepted).borne faulty).0 borne)
+    correct.some_left (machine_of_plan plan) (accepted_are_sound plan accepted) faulty borne
 
 pub nodes_run : NodesRun
 nodes_run plan accepted faulty nodes begins rounds are =
@@ -87,23 +84,20 @@ module _ (plan : Plan) (accepted : IsAccepted plan) (faulty : List ℕ) (at : �
       states = r.states;
     }
 
-    borne_here : machines.IsToleratedBy m faulty
-    borne_here = ((are_alike plan accepted).borne faulty).0 borne
-
     pub settle_through : CountThrough plan faulty at (plan_bound plan) rounds
     settle_through =
-        count (plan_bound plan) (settled.settle_through m sound faulty at rounds here borne_here)
+        count (plan_bound plan) (settled.settle_through m sound faulty at rounds here borne)
 
     pub lock_through : plan_bound plan ≤ rounds → IsLocked plan faulty (at (plan_bound plan))
     lock_through reached =
         ((are_alike plan accepted).locks faulty _).1
-        (settled.lock_through m sound faulty at rounds here borne_here reached)
+        (settled.lock_through m sound faulty at rounds here borne reached)
 
     pub stay_through : (from : ℕ) → from ≤ rounds → IsLocked plan faulty (at from)
         → StayLockedThrough plan faulty at from rounds
     stay_through from le locked =
         stay_locked from
-        (settled.stay_through m sound faulty at rounds here borne_here from le
+        (settled.stay_through m sound faulty at rounds here borne from le
         (((are_alike plan accepted).locks faulty _).0 locked))
 
 -- what holds of configurations holds of others with the same states of the correct nodes
@@ -154,5 +148,4 @@ heard_nodes_stay_locked plan accepted faulty borne nodes begins rounds are from 
     let alike = are_alike plan accepted in
     stay_locked plan accepted faulty (states_in plan nodes begins) rounds from
     (heard.heard_nodes_stay_locked (machine_of_plan plan) (accepted_are_sound plan accepted) faulty
-    ((alike.borne faulty).0 borne) nodes begins rounds are from le
-    ((alike.locks faulty _).0 locked))
+    borne nodes begins rounds are from le ((alike.locks faulty _).0 locked))

@@ -35,13 +35,12 @@ accepted_are_sound plan accepted =
       settles = alike.settles.0 (every_plan_settles plan accepted);
       locks = λ faulty run borne is long.
           (alike.locks faulty _).0
-          (locks_at_bound plan accepted faulty run ((alike.borne faulty).1 borne)
-          ((alike.runs faulty run).1 is) long);
+          (locks_at_bound plan accepted faulty run borne ((alike.runs faulty run).1 is) long);
       stays = λ faulty run borne is from lt locked.
-          let stays = locked_runs_count plan accepted faulty run ((alike.borne faulty).1 borne)
+          let stays = locked_runs_count plan accepted faulty run borne
           ((alike.runs faulty run).1 is) from lt ((alike.locks faulty _).1 locked) in
           record {
             locked = λ t le within. (alike.locks faulty _).0 (stays.locked t le within);
-            counts = (alike.counts faulty run from).0 stays.counts;
+            counts = stays.counts;
           };
     }

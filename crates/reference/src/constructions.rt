@@ -41,11 +41,7 @@ pub struct Shape {
 
 impl Shape {
     /// That of the nodes of a plan with a layer.
-    pub fn of<C: Construction>(
-        alloc: Global,
-        plan: &C,
-        layer: Layer,
-    ) -> Result<Shape, AllocError> {
+    pub fn of<C: Construction>(alloc: Global, plan: &C, layer: Layer) -> Result<Shape, AllocError> {
         let numbers = plan.numbers();
         let mut all = Vec::new(alloc);
         for node in 0..numbers.nodes {
@@ -63,10 +59,7 @@ impl Shape {
 
     /// The fields of a node.
     pub fn fields(&self, node: u64) -> Fields {
-        self.fields
-            .get(node as usize)
-            .copied()
-            .unwrap_or(NO_FIELDS)
+        self.fields.get(node as usize).copied().unwrap_or(NO_FIELDS)
     }
 }
 

@@ -58,11 +58,6 @@ fn follows_left(group: &Group, depth: usize, own: &State, heard: &[State]) -> bo
     is_trusted && is_left_share && is_backed(group, depth, own, heard)
 }
 
-/// Whether a node of a plan that hears these states follows the left half of the plan.
-pub fn is_led_by_left(plan: &Group, node: u64, heard: &[State]) -> bool {
-    !plan.is_single() && follows_left(plan, 0, &state_of(heard, node), heard)
-}
-
 /// The instruction that a node of a group takes, if each of the group's nodes had three: those of
 /// the king at its place in the group.
 fn turn_of(group: &Group, depth: usize, own: &State, heard: &[State]) -> u64 {
@@ -78,7 +73,13 @@ fn turn_of(group: &Group, depth: usize, own: &State, heard: &[State]) -> u64 {
 fn king_after(group: &Group, depth: usize, own: &State, heard: &[State]) -> Register {
     let turn = turn_of(group, depth, own, heard);
     let place = king_at(depth);
-    let king = agreed(own.register(place), nodes_of(group, heard), place, group.faults, turn);
+    let king = agreed(
+        own.register(place),
+        nodes_of(group, heard),
+        place,
+        group.faults,
+        turn,
+    );
     king.raised(1, group.modulus)
 }
 

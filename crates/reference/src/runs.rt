@@ -16,6 +16,18 @@ pub struct Played<'a, C> {
     pub part: &'a Part,
 }
 
+// Written out, since no parameter has to be dropped.
+impl<C> Drop for Played<'_, C> {
+    fn drop(self) {
+        let Played {
+            plan: _,
+            shape: _,
+            script: _,
+            part: _,
+        } = self;
+    }
+}
+
 /// A run that is at a configuration.
 pub struct Run<'a, C> {
     pub played: &'a Played<'a, C>,

@@ -103,10 +103,18 @@ fn lay_lies(round: &Round<'_>, stretch: (usize, usize), lies: &[NodeState], hear
     }
 }
 
-/// The faulty nodes on whose lies the layer's step depends, as a stretch of their places. If the
-/// layer has registers, the node's own state is laid for it.
-fn heed<O: Overlay>(turn: &NodeStep<'_>, overlay: &O, room: &mut RoundBuffers) -> (usize, usize)
-    requires { IsGathered turn.now.round.now (O.layer overlay.now) turn.now.states.now room.old }
+/// The faulty nodes on whose lies the layer's step depends, as a stretch of their places, if the
+/// counter shows this output. If the layer has registers, the node's own state is laid for it.
+fn heed<O: Overlay>(
+    turn: &NodeStep<'_>,
+    output: u64,
+    overlay: &O,
+    room: &mut RoundBuffers,
+) -> (usize, usize)
+    requires gathered { IsGathered turn.now.round.now (O.layer overlay.now) turn.now.states.now
+        room.old }
+    requires output { output ≡ shown (plan_depth turn.now.round.now.tower.now)
+        (state_of turn.now.states.now.current turn.now.v) }
     ensures within { result.1
         ≤ length (faulty_at turn.now.round.now.script.now turn.now.round.now.t) }
     ensures room { HasRoom turn.now.round.now.script.now room.new.heard.items }
@@ -125,13 +133,19 @@ fn heed<O: Overlay>(turn: &NodeStep<'_>, overlay: &O, room: &mut RoundBuffers) -
     turn.states.facts();
     turn.round.facts();
     lay_itself(turn, &mut room.heard);
-    let output = shown_at(turn.states, turn.v, turn.round.tower.depth());
     overlay.relevant_liars(turn.v, output, &Heard::of(&room.heard), turn.round.faulty)
 }
 
-/// The layer's step, after that of the counter, which stands in `out`. If the layer has registers,
-/// what is laid for it is enough.
-fn step_layer<O: Overlay>(turn: &NodeStep<'_>, overlay: &mut O, room: &mut RoundBuffers)
+/// The layer's step, after that of the counter, which stands in `out`; the counter showed this
+/// output. If the layer has registers, what is laid for it is enough.
+fn step_layer<O: Overlay>(
+    turn: &NodeStep<'_>,
+    output: u64,
+    overlay: &mut O,
+    room: &mut RoundBuffers,
+)
+    requires output { output ≡ shown (plan_depth turn.now.round.now.tower.now)
+        (state_of turn.now.states.now.current turn.now.v) }
     requires set { IsSet turn.now.round.now (O.layer overlay.old) turn.now.states.now room.old }
     requires enough { 0 < (O.layer overlay.old).extra → IsEnough turn.now.round.now
         (O.layer overlay.old) (O.kept overlay.old) turn.now.v turn.now.states.now.current
@@ -151,7 +165,6 @@ fn step_layer<O: Overlay>(turn: &NodeStep<'_>, overlay: &mut O, room: &mut Round
 {
     turn.states.facts();
     turn.round.facts();
-    let output = shown_at(turn.states, turn.v, turn.round.tower.depth());
     let heard = Heard::of(&room.heard);
     overlay.advance(turn.v, output, &heard, &mut room.work, &mut room.step.out);
 }
@@ -179,8 +192,9 @@ pub fn step_with<O: Overlay, G: Ledger>(
 {
     turn.states.facts();
     turn.round.facts();
-    let layers = heed(turn, overlay, room);
     let round = turn.round;
+    let output = shown_at(turn.states, turn.v, round.tower.depth());
+    let layers = heed(turn, output, overlay, room);
     let hearer = Hearer {
         tower: round.tower,
         faulty: round.faulty,
@@ -196,5 +210,5 @@ pub fn step_with<O: Overlay, G: Ledger>(
         steps,
     );
     lay_lies(round, layers, &room.step.lies, &mut room.heard);
-    step_layer(turn, overlay, room);
+    step_layer(turn, output, overlay, room);
 }

@@ -1,35 +1,20 @@
 //! Cases: inputs, and what is to be answered to them.
 
-use reference::plans::Plan;
-use reference::refusals::Refusal;
-use std::alloc::{AllocError, Global};
+use crate::calling::Program;
+use crate::drawn_parts::Kind;
+use crate::drawn_plans::AnyPlan;
+use crate::drawn_scripts::Length;
+use crate::draws::Draws;
+use reference::constructions::{Construction, Shape};
+use reference::runs::Played;
+use reference::script_texts::write_script;
+use reference::texts::Text;
+use reference::writing::answer;
+use std::alloc::AllocError;
 
-/// The refusal of a line after so many others of a part, which stands after a plan.
-pub fn refusal_of(plan: &Plan, part: &'static str, place: u64, rule: &'static str) -> Refusal {
-    let first = (plan.levels.len() as u64).wrapping_add(4);
-    Refusal {
-        part,
-        line: first.wrapping_add(place),
-        rule,
-    }
-}
-
-/// How a part is refused that may break a rule on some line, or else the script, which is not there
-/// after so many lines.
-pub fn refusal_or_script(
-    plan: &Plan,
-    part: &'static str,
-    broken: Option<(u64, &'static str)>,
-    lines: u64,
-) -> Refusal {
-    match broken {
-        Some((place, rule)) => refusal_of(plan, part, place, rule),
-        None => refusal_of(plan, "script", lines, "form"),
-    }
-}
-
-/// A word, an input, the bytes that are to be answered, and the exit code.
+/// A word of a program, an input, the bytes that are to be answered, and the exit code.
 pub struct Case {
+    pub program: Program,
     pub word: &'static str,
     pub input: Vec<u8>,
     pub wanted: Vec<u8>,
@@ -40,6 +25,7 @@ pub struct Case {
 impl Drop for Case {
     fn drop(self) {
         let Case {
+            program: _,
             word: _,
             input,
             wanted,
@@ -50,30 +36,65 @@ impl Drop for Case {
     }
 }
 
-impl Case {
-    /// A text that is to be answered with another and the exit code 0.
-    pub fn of(word: &'static str, input: String, wanted: String) -> Case {
-        Case {
-            word,
-            input: input.into_bytes(),
-            wanted: wanted.into_bytes(),
-            code: 0,
-        }
+/// For about how many rounds eras go on after the bound whose lines are to be of some slots.
+fn behind_of<C: Construction>(plan: &C, kind: Kind, behind: u64) -> u64 {
+    let numbers = plan.numbers();
+    match kind {
+        Kind::Rows | Kind::Slots => behind,
+        Kind::Agreement | Kind::Firing | Kind::Log => numbers.entry().wrapping_mul(4),
     }
+}
 
-    /// An input that is to be refused.
-    pub fn refused(
-        alloc: Global,
-        word: &'static str,
-        input: Vec<u8>,
-        refusal: Refusal,
-    ) -> Result<Case, AllocError> {
-        let wanted = refusal.text(alloc)?;
-        Ok(Case {
-            word,
-            input,
-            wanted: wanted.into_bytes(),
-            code: refusal.code(),
-        })
+/// What a word answers that plays a script with eras of a length, which is drawn, over a plan of a
+/// program.
+fn played<C: Construction>(
+    draws: &mut Draws,
+    program: Program,
+    plan: &C,
+    kind: Kind,
+    length: Length,
+) -> Result<Case, AllocError> {
+    let part = draws.part(kind, &plan.numbers())?;
+    let shape = Shape::of(draws.alloc, plan, part.layer())?;
+    let behind = behind_of(plan, kind, length.behind);
+    let script = draws.script(&shape, Length { behind, ..length })?;
+    let mut input = String::new(draws.alloc);
+    let mut out = Text::behind(&mut input);
+    plan.write(&mut out);
+    part.write(&mut out);
+    write_script(&mut out, &script);
+    out.end()?;
+    let played = Played {
+        plan,
+        shape: &shape,
+        script: &script,
+        part: &part,
+    };
+    Ok(Case {
+        program,
+        word: kind.word(),
+        input: input.into_bytes(),
+        wanted: answer(draws.alloc, &played)?.into_bytes(),
+        code: 0,
+    })
+}
+
+/// What a word answers that plays a drawn script with eras of a length over a plan.
+pub fn played_on(
+    draws: &mut Draws,
+    plan: &AnyPlan,
+    kind: Kind,
+    length: Length,
+) -> Result<Case, AllocError> {
+    match plan {
+        AnyPlan::Boosting(plan) => played(draws, Program::Counterlab, plan, kind, length),
+        AnyPlan::Halving(plan) => {
+            let mut plan = *plan;
+            let unit = kind.unit(&plan.numbers());
+            if unit > 1 {
+                plan.modulus = unit.wrapping_mul(draws.between(1, 4));
+            }
+            played(draws, Program::Halvinglab, &plan, kind, length)
+        }
     }
 }

@@ -1,188 +1,203 @@
 //! Scripts that are drawn.
 
+use crate::drawn_states::Near;
 use crate::draws::Draws;
-use reference::plans::{Plan, quotient};
+use reference::constructions::Shape;
 use reference::scripts::{Era, Lie, Receivers, Rule, Script, Start};
-use reference::states::State;
+use std::alloc::AllocError;
+
+/// How many lies a script may have.
+const MOST_LIES: usize = 256;
+
+/// How long eras are, by the version of their script: of version 1 there is one.
+#[derive(Clone, Copy)]
+pub struct Length {
+    pub version: u64,
+    /// For about how many rounds most eras go on after the bound. If 0, they are short.
+    pub behind: u64,
+}
 
 impl Draws {
-    /// Faulty nodes: mostly as many as the plan tolerates.
-    fn faulty(&mut self, plan: &Plan) -> Vec<u64> {
-        let wanted = if self.once_in(3) {
-            self.below(plan.faults().wrapping_add(1))
+    /// How long an era is; one in three may be short.
+    fn length(&mut self, shape: &Shape, behind: u64, may_be_short: bool) -> u64 {
+        if behind == 0 || may_be_short && self.once_in(3) {
+            self.between(1, 12)
         } else {
-            plan.faults()
-        };
-        self.some(plan.nodes(), wanted)
+            shape.numbers.bound.wrapping_add(self.between(1, behind))
+        }
     }
 
-    /// The bytes in which some nodes start, the fewer the smaller `often`. At times every second
-    /// group of the lowest level starts near to something else.
-    fn starts(&mut self, plan: &Plan, centre: &State, often: u64) -> Vec<Start> {
+    /// Faulty nodes: mostly as many as the plan tolerates.
+    fn faulty(&mut self, shape: &Shape) -> Result<Vec<u64>, AllocError> {
+        let mut wanted = shape.numbers.faults;
+        if self.once_in(4) {
+            wanted = self.below(wanted.wrapping_add(1));
+        }
+        self.some(shape.numbers.nodes, wanted)
+    }
+
+    /// The bytes in which some nodes start: all but one in `often`.
+    fn starts(&mut self, shape: &Shape, near: &Near, often: u64) -> Result<Vec<Start>, AllocError> {
         let mut starts = Vec::new(self.alloc);
-        let other = self.other(plan, centre);
-        for node in 0..plan.nodes() {
+        for node in 0..shape.numbers.nodes {
             if !self.once_in(often) {
-                let group = quotient(node, plan.group(1));
-                let near = if group % 2 == 0 { centre } else { &other };
-                let bytes = self.state(plan, node, near);
-                self.put(&mut starts, Start { node, bytes });
+                let bytes = self.state_bytes(shape, near, node)?;
+                starts.push(Start { node, bytes })?;
             }
         }
-        starts
+        Ok(starts)
     }
 
     /// An era from a configuration on.
-    fn era(&mut self, plan: &Plan, first: u64, centre: &State) -> Era {
-        let faulty = self.faulty(plan);
+    fn era(&mut self, shape: &Shape, near: &Near, first: u64) -> Result<Era, AllocError> {
         let often = self.between(1, 3);
-        let starts = self.starts(plan, centre, often);
-        Era {
+        Ok(Era {
             first,
-            faulty,
-            starts,
-        }
+            faulty: self.faulty(shape)?,
+            starts: self.starts(shape, near, often)?,
+        })
     }
 
-    /// Some eras within so many rounds.
-    fn eras(&mut self, plan: &Plan, rounds: u64, centre: &State) -> Vec<Era> {
-        let mut eras = Vec::new(self.alloc);
+    /// Puts a few eras into a script, and says with which configuration the last one begins.
+    fn put_eras(
+        &mut self,
+        shape: &Shape,
+        near: &Near,
+        length: Length,
+        script: &mut Script,
+    ) -> Result<u64, AllocError> {
         let mut first = 0u64;
-        for _ in 0..self.below(4) {
-            first = first.wrapping_add(self.between(1, 4));
-            if first > rounds {
-                break;
+        let most = if length.behind == 0 { 4 } else { 3 };
+        if length.version == 2 {
+            for _ in 0..self.below(most) {
+                first = first.wrapping_add(self.length(shape, length.behind, true));
+                let era = self.era(shape, near, first)?;
+                script.eras.push(era)?;
             }
-            let era = self.era(plan, first, centre);
-            self.put(&mut eras, era);
         }
-        eras
-    }
-
-    /// The nodes of a script that are faulty at some time.
-    fn liars(&mut self, script: &Script) -> Vec<u64> {
-        let mut liars = Vec::new(self.alloc);
-        self.note(liars.extend_from_slice(&script.faulty));
-        for era in &script.eras {
-            self.note(liars.extend_from_slice(&era.faulty));
-        }
-        liars
+        Ok(first)
     }
 
     /// Groups of nodes.
-    fn groups(&mut self, plan: &Plan) -> Vec<Vec<u64>> {
+    fn groups(&mut self, nodes: u64) -> Result<Vec<Vec<u64>>, AllocError> {
         let mut groups = Vec::new(self.alloc);
         for _ in 0..self.below(5) {
-            let size = self.between(1, plan.nodes());
-            let group = self.some(plan.nodes(), size);
-            self.put(&mut groups, group);
+            let size = self.between(1, nodes);
+            groups.push(self.some(nodes, size)?)?;
         }
-        groups
+        Ok(groups)
     }
 
-    /// Who hears a lie, if there are so many groups.
-    fn receivers(&mut self, plan: &Plan, groups: u64) -> Receivers {
+    /// Who of so many nodes hears a lie, if there are so many groups.
+    fn receivers(&mut self, nodes: u64, groups: u64) -> Receivers {
         match self.below(3) {
             0 => Receivers::All,
             1 if groups > 0 => Receivers::Group(self.below(groups) as usize),
             _ => {
-                let first = self.below(plan.nodes());
-                let last = self.between(first, plan.nodes().wrapping_sub(1));
-                Receivers::Between(first, last)
+                let first = self.below(nodes);
+                Receivers::Between(first, self.between(first, nodes.wrapping_sub(1)))
             }
         }
     }
 
     /// What a sender's lie is.
-    fn lie(&mut self, plan: &Plan, sender: u64, centre: &State) -> Lie {
-        match self.below(5) {
+    fn lie(&mut self, shape: &Shape, near: &Near, sender: u64) -> Result<Lie, AllocError> {
+        Ok(match self.below(5) {
             0 => Lie::Noise,
-            1 => Lie::Copy(self.below(plan.nodes())),
+            1 => Lie::Copy(self.below(shape.numbers.nodes)),
             2 => Lie::Shift(self.below(4)),
             3 => Lie::Shift(self.below(999999999999999)),
-            _ => Lie::Bytes(self.state(plan, sender, centre)),
-        }
+            _ => Lie::Bytes(self.state_bytes(shape, near, sender)?),
+        })
     }
 
-    /// A rule for one of these nodes, if there are so many groups.
-    fn rule(&mut self, plan: &Plan, liars: &[u64], groups: u64, centre: &State) -> Rule {
-        let place = self.below(liars.len() as u64);
-        let sender = liars.get(place as usize).copied().unwrap_or(0);
-        let first = if self.once_in(2) { 0 } else { self.below(8) };
-        Rule {
+    /// A rule for a sender in a script.
+    fn rule(
+        &mut self,
+        shape: &Shape,
+        near: &Near,
+        script: &Script,
+        sender: u64,
+    ) -> Result<Rule, AllocError> {
+        let end = script.rounds.wrapping_add(1);
+        let first = if self.once_in(2) { 0 } else { self.below(end) };
+        let last = if self.once_in(3) {
+            self.between(first, end)
+        } else {
+            end
+        };
+        Ok(Rule {
             first,
-            last: self.between(first, 12),
+            last,
             sender,
-            receivers: self.receivers(plan, groups),
-            lie: self.lie(plan, sender, centre),
+            receivers: self.receivers(shape.numbers.nodes, script.groups.len() as u64),
+            lie: self.lie(shape, near, sender)?,
+        })
+    }
+
+    /// The nodes of a script that are faulty at some time.
+    fn liars(&mut self, script: &Script) -> Result<Vec<u64>, AllocError> {
+        let mut liars = Vec::from_slice(self.alloc, &script.faulty)?;
+        for era in &script.eras {
+            liars.extend_from_slice(&era.faulty)?;
         }
+        Ok(liars)
     }
 
     /// Puts groups and rules into a script, for nodes that are faulty at some time.
-    fn put_rules(&mut self, plan: &Plan, script: &mut Script, centre: &State) {
-        let liars = self.liars(script);
-        script.groups = self.groups(plan);
-        let groups = script.groups.len() as u64;
-        let most = (liars.len() as u64).wrapping_mul(4);
-        for _ in 0..self.between(most.min(1), most) {
-            let rule = self.rule(plan, &liars, groups, centre);
-            self.put(&mut script.rules, rule);
+    fn put_rules(
+        &mut self,
+        shape: &Shape,
+        near: &Near,
+        script: &mut Script,
+    ) -> Result<(), AllocError> {
+        script.groups = self.groups(shape.numbers.nodes)?;
+        for sender in &self.liars(script)? {
+            for _ in 0..self.below(5) {
+                if script.rules.len() < MOST_LIES {
+                    let rule = self.rule(shape, near, script, *sender)?;
+                    script.rules.push(rule)?;
+                }
+            }
         }
+        Ok(())
     }
 
-    /// How many rounds are played.
-    fn rounds(&mut self) -> u64 {
-        if self.once_in(4) {
-            self.below(4)
-        } else {
-            self.between(4, 13)
-        }
-    }
-
-    /// The first and the last configuration that are shown, of a run of so many rounds: mostly all
-    /// of them.
-    fn shown(&mut self, rounds: u64) -> (u64, u64) {
-        if self.once_in(3) {
-            let first = self.between(0, rounds);
-            (first, self.between(first, rounds))
-        } else {
-            (0, rounds)
-        }
-    }
-
-    /// A script of a version for a plan, with nodes that are faulty and nothing else.
-    fn bare_script(&mut self, plan: &Plan, version: u64) -> Script {
-        Script {
+    /// A script of a version whose nodes start by noise, zero or lines, with nothing else.
+    fn bare_script(
+        &mut self,
+        shape: &Shape,
+        near: &Near,
+        version: u64,
+    ) -> Result<Script, AllocError> {
+        let often = self.between(1, 12);
+        Ok(Script {
             version,
-            faulty: self.faulty(plan),
-            key: None,
-            noisy: false,
-            starts: Vec::new(self.alloc),
+            faulty: self.faulty(shape)?,
+            key: self.key(),
+            noisy: self.once_in(2),
+            starts: self.starts(shape, near, often)?,
             eras: Vec::new(self.alloc),
             groups: Vec::new(self.alloc),
             rules: Vec::new(self.alloc),
             rounds: 0,
             first: 0,
             last: 0,
-        }
+        })
     }
 
-    /// A script of a version for a plan.
-    pub fn script(&mut self, plan: &Plan, version: u64) -> Script {
-        let mut script = self.bare_script(plan, version);
-        let centre = self.centre(plan);
-        script.rounds = self.rounds();
-        if version == 2 {
-            script.eras = self.eras(plan, script.rounds, &centre);
+    /// A script with eras of a length. Mostly all configurations are shown.
+    pub fn script(&mut self, shape: &Shape, length: Length) -> Result<Script, AllocError> {
+        let near = self.near(shape);
+        let mut script = self.bare_script(shape, &near, length.version)?;
+        let last_era = self.put_eras(shape, &near, length, &mut script)?;
+        script.rounds = last_era.wrapping_add(self.length(shape, length.behind, false));
+        self.put_rules(shape, &near, &mut script)?;
+        script.last = script.rounds;
+        if self.once_in(3) {
+            script.first = self.between(0, script.rounds);
+            script.last = self.between(script.first, script.rounds);
         }
-        self.put_rules(plan, &mut script, &centre);
-        let (first, last) = self.shown(script.rounds);
-        script.first = first;
-        script.last = last;
-        let often = self.between(2, 12);
-        script.key = self.key();
-        script.noisy = self.once_in(2);
-        script.starts = self.starts(plan, &centre, often);
-        script
+        Ok(script)
     }
 }

@@ -84,7 +84,11 @@ impl Draws {
         for number in 0..count {
             let behind = remainder(number.wrapping_add(count).wrapping_sub(first), count);
             let is_any = self.below(count.wrapping_sub(number)) < left;
-            if if are_neighbours { behind < wanted } else { is_any } {
+            if if are_neighbours {
+                behind < wanted
+            } else {
+                is_any
+            } {
                 some.push(number)?;
                 left = left.saturating_sub(1);
             }

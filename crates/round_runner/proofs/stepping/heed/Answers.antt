@@ -1,7 +1,5 @@
-use Rattle.std.proofs.Common.{ℕ, ap, ◌∙◌}
+use Rattle.std.proofs.Common.{◌∙◌}
 use Rattle.std.proofs.lemmas.List.{with_items_is}
-use Rattle.construction.specs.Shown.{shown}
-use Rattle.construction.specs.Steps.{state_of}
 use Rattle.round_runner.proofs.LayerSteps.{can_turn, laid_may_hear}
 use Rattle.round_runner.proofs.stepping.heed.Goals as goal
 
@@ -10,7 +8,7 @@ relevant_liars-requires g c =
     let turn = c.args.turn.now in
     let config = turn.states.now.current in
     let layer = g.O.Overlay.layer c.args.overlay.now in
-    let can = can_turn layer turn c.args.room.now c.facts-2.ensures c.requires.set
+    let can = can_turn layer turn c.args.room.now c.facts-2.ensures c.requires.gathered.set
     (g.met.O.Overlay.keeps_range c.args.overlay.now) (g.met.O.Overlay.deaf c.args.overlay.now)
     c.facts.ensures.sound c.facts.ensures.current in
     let long = c.lay_itself.auto.heard ∙ c.deref_mut.ensures.len in
@@ -19,7 +17,6 @@ relevant_liars-requires g c =
       step = λ some. laid_may_hear turn.round.now.tower.now turn.round.now.script.now layer
           (g.O.Overlay.kept c.args.overlay.now) turn.round.now.t turn.v config can
           _ c.lay_itself.new.heard (c.of.ensures ∙ (c.deref.ensures.value ∙ items))
-          c.shown_at-output.result (c.shown_at-output.ensures
-          ∙ ap (λ (d : ℕ). shown d (state_of config turn.v)) c.depth.ensures)
+          c.args.output c.requires.output
           c.lay_itself.ensures.room.size some c.lay_itself.ensures.laid.some;
     }

@@ -1,7 +1,5 @@
 use Rattle.std.proofs.Common.{ℕ, ap, ◌∙◌, rules}
 use Rattle.std.specs.Prelude.{slice_set}
-use Rattle.construction.specs.Shown.{shown}
-use Rattle.construction.specs.Steps.{state_of}
 use Rattle.counter_core.specs.Overlays.{layered}
 use Rattle.machine_runner.proofs.Keeping.{as_roomy}
 use Rattle.round_runner.proofs.LayerSteps.{can_turn, can_step, step_is_that}
@@ -20,8 +18,7 @@ advance-requires-clause-step g c =
     (g.met.O.Overlay.keeps_range c.args.overlay.now) (g.met.O.Overlay.deaf c.args.overlay.now)
     c.facts.ensures.sound c.facts.ensures.current in
     can_step plan script layer kept t turn.v config can _ c.args.room.now.heard.items
-    (c.of-heard.ensures ∙ c.deref.ensures.value) c.shown_at-output.result
-    (c.shown_at-output.ensures ∙ ap (λ (d : ℕ). shown d (state_of config turn.v)) c.depth.ensures)
+    (c.of-heard.ensures ∙ c.deref.ensures.value) c.args.output c.requires.output
     c.requires.set.ready.heard.size c.args.room.now.step.out c.requires.set.ready.step.out
     (λ some. let e = c.requires.enough some in e.some)
 
@@ -39,8 +36,7 @@ returns g c =
     c.facts.ensures.sound c.facts.ensures.current in
     let step = step_is_that plan script layer kept t turn.v config can _
     c.args.room.now.heard.items (c.of-heard.ensures ∙ c.deref.ensures.value)
-    c.shown_at-output.result
-    (c.shown_at-output.ensures ∙ ap (λ (d : ℕ). shown d (state_of config turn.v)) c.depth.ensures)
+    c.args.output c.requires.output
     c.requires.set.ready.heard.size (λ some. let e = c.requires.enough some in e.step) in
     record {
       layer = c.advance.ensures.layer;

@@ -1,0 +1,10 @@
+pub mod Unskipped
+pub mod ReadPlans
+pub mod StatedPlans
+pub mod ReadTables
+pub mod ReadAgreements
+pub mod ReadRequests
+pub mod ReadLogs
+pub mod ReadScripts
+pub mod ReadWants
+pub mod ReadHalving
