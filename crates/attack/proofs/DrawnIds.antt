@@ -1,9 +1,9 @@
 -- The faulty nodes that are drawn: rising ids of nodes, and no more than are asked for.
-use Rattle.std.proofs.Common.{◌≡◌, ℕ, zero, suc, ◌+◌, ◌-◌, ◌<◌, ◌≤◌, Bool, not, ◌&&◌, ◌||◌, List}
+use Rattle.std.proofs.Common.{◌≡◌, ℕ, zero, suc, ◌+◌, ◌<◌, ◌≤◌, Bool, not, ◌&&◌, ◌||◌, List}
 use Rattle.std.proofs.Common.{true, false}
 use Rattle.std.proofs.Common.{[], ◌∷◌, length, take, drop, All, refl, sym, ap, ap₂, ◌∙◌, arith}
 use Rattle.std.proofs.Common.{inl, inr}
-use Rattle.std.proofs.Common.{mod-lt, ◌%◌, ◌*◌, map, get_or}
+use Rattle.std.proofs.Common.{mod-lt, ◌%◌, ◌*◌, get_or}
 use Rattle.std.specs.Prelude.{nat_eq, filter, ◌==◌, if◌then◌else◌}
 use Rattle.std.specs.List.{range_with_len, remove, IsDistinct}
 use Rattle.std.specs.List.Sorted.{IsStrictlyIncreasing}

@@ -1,5 +1,6 @@
 -- What is written in the place of the best attack was played, and locks no sooner.
-use Rattle.std.proofs.Common.{◌≡◌, ℕ, zero, suc, ◌-◌, Option, Bool, true, false, length, refl}
+use Rattle.std.proofs.Common.{◌≡◌, ℕ, zero, suc, ◌+◌, ◌-◌, Option, Bool, true, false, length, refl}
+use Rattle.std.proofs.Common.{add-one}
 use Rattle.std.specs.Prelude.{if◌then◌else◌}
 use Rattle.state_codec.specs.Shapes.{Shape}
 use Rattle.machines.specs.Machines.{Machine}
@@ -13,6 +14,13 @@ use Rattle.attack.specs.declared.searching.Best.{Best}
 use Rattle.attack.specs.declared.trying.Tried.{Tried}
 use Rattle.attack.specs.declared.trying.Tried.TheVariants as tried
 use Rattle.attack.proofs.BestOfTries.{outlasted, not_self, was_played}
+
+-- one lie more is tried
+pub leaner_more : (machine : Machine) (shape : Shape) (first_line count : ℕ) (best : Best) (i : ℕ)
+    → let now = leaner machine shape first_line count best i in
+    leaner machine shape first_line count best (i + 1)
+    ≡ kept_by machine shape first_line now (without_lie (count - 1 - i) now.attack)
+leaner_more machine shape first_line count best i = rw (add-one i) refl
 
 module _ (machine : Machine) (shape : Shape) (first_line : ℕ)
     (target : IsTarget machine shape first_line) (best : Best) where

@@ -16,6 +16,7 @@ pub mod SoundTexts
 pub mod PlanFits
 pub mod RunsAsked
 pub mod FreshAttacks
+pub mod FoundAttacks
 pub mod PlanShapes
 pub mod WrittenTexts
 pub mod WrittenAttacks
