@@ -34,7 +34,7 @@ SAY_VERSION = {
 }
 DRAWN = EXAMPLES / "pictures"
 # the kinds of `attack`, and for each word `run` a plan that it plays
-KINDS = ["noise", "frozen", "split", "king", "shadow", "half"]
+KINDS = ["noise", "frozen", "split", "king", "shadow", "left", "right"]
 PLANS = {
     "counterlab": b"plan 2\nbase 576\nlevel 3 1 10 spare 1\nend\n",
     "halvinglab": b"halving 1\ngroup 7 2 10\nend\n",

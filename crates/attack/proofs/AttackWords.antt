@@ -53,11 +53,11 @@ pub head_lines : (faulty key rest : List ℕ)
     ++ 10 ∷ (joined (codes "start" ∷ codes "noise" ∷ []) ++ 10 ∷ rest)))
 head_lines faulty key rest = rw (joined_numbers (codes "faulty") faulty) (simp append_assoc)
 
-pub last_lines : (rounds : ℕ) → rounds_text rounds
+pub last_lines : (rounds first last : ℕ) → rounds_text rounds first last
     ≡ joined (codes "rounds" ∷ decimal rounds ∷ [])
-    ++ 10 ∷ (joined (codes "show" ∷ decimal rounds ∷ decimal rounds ∷ []) ++ 10 ∷ codes "end\n")
+    ++ 10 ∷ (joined (codes "show" ∷ decimal first ∷ decimal last ∷ []) ++ 10 ∷ codes "end\n")
 unfolding spaced
-last_lines rounds = simp append_assoc
+last_lines rounds first last = simp append_assoc
 
 -- ---- starts and lies
 

@@ -15,6 +15,7 @@ use Rattle.attack.specs.FaultyIds.{chosen, left_over}
 use Rattle.attack.specs.Kinds.{kind_lies, fresh}
 use Rattle.attack.specs.AttacksWorked.{KindsAreSpelled, MixedIsSpelled, ChangesAreWorked}
 use Rattle.attack.specs.AttacksWorked.{AttacksAreWorked}
+use Rattle.attack.specs.TriesWorked.{TriesAreWorked}
 
 changes_are_worked : ChangesAreWorked
 unfolding mixed drawn below with_start renamed varied changed_by
@@ -31,6 +32,16 @@ changes_are_worked = record {
   content = refl;
 }
 
+pub tries_are_worked : TriesAreWorked
+unfolding mixed drawn below changed_by
+tries_are_worked = record {
+  first = refl;
+  second = refl;
+  third = refl;
+  other = refl;
+  none_yet = refl;
+}
+
 mixed_is_spelled : MixedIsSpelled
 unfolding
     digits decode_pairs encode_with width bits number_of bytes_of_bits moduli_of registers_bits
@@ -44,11 +55,12 @@ unfolding
     left_over kind_lies fresh
 kinds_are_spelled = record {
   noise = record { is = refl; read = refl };
-  half = record { is = refl; read = refl };
   frozen = record { is = refl; read = refl };
   split = record { is = refl; read = refl };
   king = record { is = refl; read = refl };
   shadow = record { is = refl; read = refl };
+  left = record { is = refl; read = refl };
+  right = record { is = refl; read = refl };
 }
 
 pub attacks_are_worked : AttacksAreWorked

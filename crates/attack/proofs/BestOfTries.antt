@@ -38,7 +38,7 @@ not_both_ways : (a b : ℕ) → nat_lt b a ≡ true → b ≤ a
 not_both_ways a b later = grind (arith, nat_tests)
 
 -- each is no later than itself
-not_self : (lock : Option ℕ) → IsNoLater lock lock
+pub not_self : (lock : Option ℕ) → IsNoLater lock lock
 not_self None = tt
 not_self (Some n) = omega arith
 
@@ -49,7 +49,7 @@ other_not None (Some b) later = tt
 other_not (Some a) (Some b) later = not_both_ways a b later
 
 -- what is no later than the best one is no later than one that the best one is not later than
-outlasted : (lock best other : Option ℕ) → is_later best lock ≡ false → IsNoLater other best
+pub outlasted : (lock best other : Option ℕ) → is_later best lock ≡ false → IsNoLater other best
     → IsNoLater other lock
 outlasted None best other later not = tt
 outlasted (Some l) None other later not = absurd (true≢false later)
@@ -121,7 +121,7 @@ module _ (machine : Machine) (shape : Shape) (first_line : ℕ)
     played_by lock (Ok script) is same =
         played_script lock script is (same_lock _ (lock_of machine script) lock refl same)
 
-    was_played : (lock : Option ℕ) → outcome machine shape first_line attack ≡ tried.Played lock
+    pub was_played : (lock : Option ℕ) → outcome machine shape first_line attack ≡ tried.Played lock
         → IsPlayed machine shape first_line attack lock
     was_played lock same = played_by lock read refl same
 

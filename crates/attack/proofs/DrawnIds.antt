@@ -1,14 +1,14 @@
 -- The faulty nodes that are drawn: rising ids of nodes, and no more than are asked for.
-use Rattle.std.proofs.Common.{◌≡◌, ℕ, zero, suc, ◌+◌, ◌-◌, ◌<◌, ◌≤◌, Bool, not, ◌&&◌, ◌||◌, List}
+use Rattle.std.proofs.Common.{◌≡◌, ℕ, zero, suc, ◌+◌, ◌<◌, ◌≤◌, Bool, not, ◌&&◌, ◌||◌, List}
 use Rattle.std.proofs.Common.{true, false}
 use Rattle.std.proofs.Common.{[], ◌∷◌, length, take, drop, All, refl, sym, ap, ap₂, ◌∙◌, arith}
 use Rattle.std.proofs.Common.{inl, inr}
-use Rattle.std.proofs.Common.{mod-lt, ◌%◌}
+use Rattle.std.proofs.Common.{mod-lt, ◌%◌, ◌*◌, get_or}
 use Rattle.std.specs.Prelude.{nat_eq, filter, ◌==◌, if◌then◌else◌}
 use Rattle.std.specs.List.{range_with_len, remove, IsDistinct}
 use Rattle.std.specs.List.Sorted.{IsStrictlyIncreasing}
 use Rattle.std.specs.Cmp.{nat_eq_equiv, unsigned_Decides}
-use Rattle.std.proofs.lemmas.Bool.{cases_lt, eqb-true, eq-eqb, and_from}
+use Rattle.std.proofs.lemmas.Bool.{cases_lt, eqb-true, eq-eqb, and_from, le-ltb, lt-ltb}
 use Rattle.std.proofs.lemmas.Bool.Decides.{nat_tests}
 use Rattle.std.proofs.lemmas.List.Edits.{length-remove, get_or-remove_below, get_or-remove_above}
 use Rattle.std.proofs.lemmas.List.Elements.{All-append, All-take, All-drop, All-filter}
@@ -16,6 +16,7 @@ use Rattle.std.proofs.lemmas.List.Elements.{All-head, All-tail}
 use Rattle.std.proofs.lemmas.List.Elements.{filter_agree}
 use Rattle.std.proofs.lemmas.List.Filters.{length-filter_both}
 use Rattle.std.proofs.lemmas.List.FromFn.{length-range_with_len, get_or-range_with_len}
+use Rattle.std.proofs.lemmas.List.FromFn.{length-map-range_with_len, get_or-map-range_with_len}
 use Rattle.std.proofs.lemmas.List.Kept.{IsStrictlyIncreasing-filter, AllPairs-from_increasing}
 use Rattle.std.proofs.lemmas.List.Folds.{list_any_at}
 use Rattle.std.proofs.lemmas.Map.Made.{is_member-filter, length-le_from_is_member}
@@ -23,7 +24,8 @@ use Rattle.std.proofs.lemmas.Map.Made.{IsDistinct-from_AllPairs}
 use Rattle.sync_types.specs.FaultSets.{is_in}
 use Rattle.adversary_script.specs.ScriptPart.{IsTolerated}
 use Rattle.attack.specs.Draws.{drawn, below}
-use Rattle.attack.specs.FaultyIds.{is_among, others, left_over, chosen, side_by_side}
+use Rattle.attack.specs.FaultyIds.{is_among, others, left_over, chosen, king_at, place_past}
+use Rattle.attack.specs.FaultyIds.{kings_but}
 
 -- ---- ranges
 
@@ -184,7 +186,7 @@ left_is seed n (suc count) few =
       size = omega (arith, size, shorter);
     }
 
--- ---- both kinds
+-- ---- ids that are chosen
 
 module _ (seed n count : ℕ) (among : count ≤ n) where
   pub chosen_borne : IsTolerated n count (chosen seed n count)
@@ -200,12 +202,86 @@ module _ (seed n count : ℕ) (among : count ≤ n) where
         few = omega (arith, size, few);
       }
 
-  pub side_borne : IsTolerated n count (side_by_side seed n count)
-  side_borne =
-      let first = below seed 0 (n + 1 - count) in
-      let lt : first < n + 1 - count = below_less seed 0 (n + 1 - count) (omega (arith, among)) in
-      record {
-        rising = rising_range first count;
-        ids = below_range first count n (omega (arith, lt));
-        few = omega (arith, length-range_with_len first count);
-      }
+-- ---- kings
+
+king_low : (left place : ℕ) → place ≤ left → king_at left place ≡ place
+king_low left place low =
+    ap (λ (b : Bool). if b then place + 2 * left else place) (le-ltb left place low)
+
+king_high : (left place : ℕ) → left < place → king_at left place ≡ place + 2 * left
+king_high left place high =
+    ap (λ (b : Bool). if b then place + 2 * left else place) (lt-ltb left place high)
+
+past_low : (without i : ℕ) → i < without → place_past without i ≡ i
+past_low without i low = ap (λ (b : Bool). if b then i else i + 1) (lt-ltb i without low)
+
+past_high : (without i : ℕ) → without ≤ i → place_past without i ≡ i + 1
+past_high without i high = ap (λ (b : Bool). if b then i else i + 1) (le-ltb i without high)
+
+king_rises : (left a b : ℕ) → a < b → king_at left a < king_at left b
+king_rises left a b lt = elim (cases_lt left a) [
+  | inl high ↦
+      omega (arith, king_high left a high, king_high left b (omega (arith, high, lt)), lt)
+  | inr low ↦ elim (cases_lt left b) [
+    | inl high ↦ omega (arith, king_low left a low, king_high left b high, lt)
+    | inr also ↦ omega (arith, king_low left a low, king_low left b also, lt)
+  ]
+]
+
+king_most : (left place : ℕ) → king_at left place ≤ place + 2 * left
+king_most left place = elim (cases_lt left place) [
+  | inl high ↦ omega (arith, king_high left place high)
+  | inr low ↦ omega (arith, king_low left place low)
+]
+
+past_rises : (without i : ℕ) → place_past without i < place_past without (i + 1)
+past_rises without i = elim (cases_lt i without) [
+  | inl low ↦ elim (cases_lt (i + 1) without) [
+    | inl also ↦ omega (arith, past_low without i low, past_low without (i + 1) also)
+    | inr high ↦ omega (arith, past_low without i low, past_high without (i + 1) high)
+  ]
+  | inr high ↦
+      omega (arith, past_high without i high, past_high without (i + 1) (omega (arith, high)))
+]
+
+past_most : (without i : ℕ) → place_past without i ≤ i + 1
+past_most without i = elim (cases_lt i without) [
+  | inl low ↦ omega (arith, past_low without i low)
+  | inr high ↦ omega (arith, past_high without i high)
+]
+
+module _ (left without count : ℕ) where
+  abbrev king : ℕ → ℕ
+  king i = king_at left (place_past without i)
+
+  kings_long : length (kings_but left without count) ≡ count
+  kings_long = length-map-range_with_len king 0 count
+
+  king_there : (i d : ℕ) → i < count → get_or (kings_but left without count) i d ≡ king i
+  king_there i d lt = get_or-map-range_with_len king 0 count i i d lt (omega arith)
+
+  kings_rise : IsStrictlyIncreasing (kings_but left without count)
+  kings_rise k lt =
+      omega (
+        arith,
+        king_there k 0 (omega (arith, lt, kings_long)),
+        king_there (k + 1) 0 (omega (arith, lt, kings_long)),
+        king_rises left (place_past without k) (place_past without (k + 1)) (past_rises without k),
+      )
+
+  pub kings_borne : (n : ℕ) → count + 2 * left < n
+      → IsTolerated n count (kings_but left without count)
+  kings_borne n inside = record {
+    rising = kings_rise;
+    ids = λ i d lt.
+        omega (
+          arith,
+          king_there i d (omega (arith, lt, kings_long)),
+          king_most left (place_past without i),
+          past_most without i,
+          inside,
+          lt,
+          kings_long,
+        );
+    few = omega (arith, kings_long);
+  }

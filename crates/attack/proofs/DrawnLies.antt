@@ -121,11 +121,11 @@ module _ (n rounds : ℕ) (some : 1 ≤ n) (few : rounds ≤ most_rounds) where
     always_is says said =
         lie_of_is n (whole_span rounds) sender (all_hear n) says whole_is all_are said
 
-    lower_is : (middle seed : ℕ) → middle < n
-        → IsDrawnLie n sender (lower_half n rounds sender middle (say.Drawn seed))
-    lower_is middle seed lt =
-        lie_of_is n (whole_span rounds) sender (between 0 middle) (say.Drawn seed) whole_is
-        (between_are 0 middle (omega (arith, some)) lt) tt
+    lower_is : (middle : ℕ) (says : Say) → middle < n → IsSaidOf n says
+        → IsDrawnLie n sender (lower_half n rounds sender middle says)
+    lower_is middle says lt said =
+        lie_of_is n (whole_span rounds) sender (between 0 middle) says whole_is
+        (between_are 0 middle (omega (arith, some)) lt) said
 
     times_is : (seed : ℕ) → IsDrawnLie n sender (at_times n rounds sender seed)
     times_is seed =
@@ -137,40 +137,50 @@ module _ (n rounds : ℕ) (some : 1 ≤ n) (few : rounds ≤ most_rounds) where
         lie_of_is n (whole_span rounds) sender (drawn_hearers seed n) (shadow_say seed n) whole_is
         (hearers_are seed) (shadow_is seed)
 
-    pub lies_are : (kind : Kind) (middle seed : ℕ) → middle < n
-        → AllByRecursion (IsDrawnLie n sender) (kind_lies n rounds sender kind middle seed)
+    pub lies_are : (kind : Kind) (middle lower upper seed : ℕ) → middle < n → lower < 10 ^ 15
+        → upper < 10 ^ 15
+        → AllByRecursion (IsDrawnLie n sender)
+        (kind_lies n rounds sender kind middle lower upper seed)
     unfolding kind_lies
-    lies_are kind.Noise middle seed lt = (always_is say.Noise tt, tt)
-    lies_are kind.Frozen middle seed lt = (always_is (say.Drawn (drawn seed 0)) tt, tt)
-    lies_are kind.Split middle seed lt =
-        (lower_is middle (drawn seed 0) lt, (always_is (say.Drawn (drawn seed 1)) tt, tt))
-    lies_are kind.King middle seed lt =
+    lies_are kind.Noise middle lower upper seed lt one other = (always_is say.Noise tt, tt)
+    lies_are kind.Frozen middle lower upper seed lt one other =
+        (always_is (say.Drawn (drawn seed 0)) tt, tt)
+    lies_are kind.Split middle lower upper seed lt one other = (
+      lower_is middle (say.Drawn (drawn seed 0)) lt tt,
+      (always_is (say.Drawn (drawn seed 1)) tt, tt),
+    )
+    lies_are kind.King middle lower upper seed lt one other =
         (times_is (drawn seed 0), (times_is (drawn seed 1), (times_is (drawn seed 2), tt)))
-    lies_are kind.Shadow middle seed lt =
+    lies_are kind.Shadow middle lower upper seed lt one other =
         (shadowed_is (drawn seed 0), (shadowed_is (drawn seed 1), (shadowed_is (drawn seed 2), tt)))
-    lies_are kind.Half middle seed lt = (always_is say.Noise tt, tt)
+    lies_are kind.Left middle lower upper seed lt one other =
+        (lower_is middle (say.Shift lower) lt one, (always_is (say.Shift upper) other, tt))
+    lies_are kind.Right middle lower upper seed lt one other =
+        (times_is (drawn seed 1), (always_is (say.Drawn (drawn seed 0)) tt, tt))
 
-    few_lies : (kind : Kind) (middle seed : ℕ)
-        → length (kind_lies n rounds sender kind middle seed) ≤ 3
+    few_lies : (kind : Kind) (middle lower upper seed : ℕ)
+        → length (kind_lies n rounds sender kind middle lower upper seed) ≤ 3
     unfolding kind_lies
-    few_lies kind.Noise middle seed = omega arith
-    few_lies kind.Frozen middle seed = omega arith
-    few_lies kind.Split middle seed = omega arith
-    few_lies kind.King middle seed = omega arith
-    few_lies kind.Shadow middle seed = omega arith
-    few_lies kind.Half middle seed = omega arith
+    few_lies kind.Noise middle lower upper seed = omega arith
+    few_lies kind.Frozen middle lower upper seed = omega arith
+    few_lies kind.Split middle lower upper seed = omega arith
+    few_lies kind.King middle lower upper seed = omega arith
+    few_lies kind.Shadow middle lower upper seed = omega arith
+    few_lies kind.Left middle lower upper seed = omega arith
+    few_lies kind.Right middle lower upper seed = omega arith
 
-  pub all_few : (own : Kind) (middle : ℕ) (seed : ℕ → ℕ) (senders : List ℕ)
-      → length (flat_map (λ sender. kind_lies n rounds sender own middle (seed sender)) senders)
+  pub all_few : (own : Kind) (middle : ℕ) (lower upper seed : ℕ → ℕ) (senders : List ℕ)
+      → length (flat_map
+      (λ sender. kind_lies n rounds sender own middle (lower sender) (upper sender) (seed sender))
+      senders)
       ≤ 3 * length senders
-  all_few own middle seed [] = omega arith
-  all_few own middle seed (sender ∷ senders) =
-      let lies = kind_lies n rounds sender own middle (seed sender) in
-      let behind : List LieLine =
-      flat_map (λ sender. kind_lies n rounds sender own middle (seed sender)) senders in
+  all_few own middle lower upper seed [] = omega arith
+  all_few own middle lower upper seed (sender ∷ senders) =
+      let told : ℕ → List LieLine =
+      λ sender. kind_lies n rounds sender own middle (lower sender) (upper sender) (seed sender) in
       omega (
         arith,
-        length-append lies behind,
-        few_lies sender own middle (seed sender),
-        all_few own middle seed senders,
+        length-append (told sender) (flat_map told senders),
+        few_lies sender own middle (lower sender) (upper sender) (seed sender),
+        all_few own middle lower upper seed senders,
       )

@@ -5,6 +5,8 @@ pub mod SaysLines
 pub mod LinesLeave
 pub mod ReadAttacks
 pub mod BestOfTries
+pub mod LeanBests
+pub mod RequestsWorked
 pub mod FirstLock
 pub mod DrawsWorked
 pub mod AttacksWorked
@@ -14,6 +16,7 @@ pub mod SoundTexts
 pub mod PlanFits
 pub mod RunsAsked
 pub mod FreshAttacks
+pub mod FoundAttacks
 pub mod PlanShapes
 pub mod WrittenTexts
 pub mod WrittenAttacks

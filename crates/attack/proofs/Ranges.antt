@@ -4,9 +4,10 @@ use Rattle.std.proofs.Common.{length, refl, ap, ◌∙◌, add-one, arith, filte
 use Rattle.std.specs.List.{range_with_len, remove}
 use Rattle.std.proofs.lemmas.List.Elements.{filter-append}
 use Rattle.std.proofs.lemmas.List.{append-nil}
+use Rattle.std.proofs.lemmas.List.FromFn.{map-range_with_len_more}
 use Rattle.texts.proofs.Ranges.{range_more}
 use Rattle.attack.specs.Draws.{below}
-use Rattle.attack.specs.FaultyIds.{is_among, others, left_over}
+use Rattle.attack.specs.FaultyIds.{is_among, others, left_over, king_at, place_past, kings_but}
 
 -- one id more is kept if it is not among these
 others_step : (n : ℕ) (ids : List ℕ) → others (n + 1) ids
@@ -32,3 +33,9 @@ pub left_over_more : (seed : ℕ) (ids : List ℕ) (i : ℕ) → left_over seed 
     ≡ remove (left_over seed ids i) (below seed i (length (left_over seed ids i)))
 unfolding left_over
 left_over_more seed ids i = rw (add-one i) refl
+
+-- one king more
+pub kings_more : (left without i : ℕ) → kings_but left without (i + 1)
+    ≡ kings_but left without i ++ king_at left (place_past without i) ∷ []
+kings_more left without i =
+    map-range_with_len_more (λ i. king_at left (place_past without i)) 0 i i (omega arith)

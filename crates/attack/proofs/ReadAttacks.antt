@@ -171,19 +171,19 @@ module _ (machine : Machine) (shape : Shape) (shaped : IsShapeOf machine shape) 
 
 -- ---- the last lines
 
-last_says : (f : ℕ) (script s : Script) (r : ℕ) (last : Option Kind) → leave.played s r r r ≡ script
-    → Says f script (at f last s) (rounds_text r)
-last_says f script s r last is =
-    subst (Says f script (at f last s)) (sym (last_lines r))
+last_says : (f : ℕ) (script s : Script) (r a b : ℕ) (last : Option Kind)
+    → leave.played s r a b ≡ script → Says f script (at f last s) (rounds_text r a b)
+last_says f script s r a b last is =
+    subst (Says f script (at f last s)) (sym (last_lines r a b))
     (step_says f script last s (leave.played s r 0 0) kind.Rounds (codes "rounds") (decimal r ∷ [])
-    (decimal r ∷ []) (joined (codes "show" ∷ decimal r ∷ decimal r ∷ []) ++ 10 ∷ codes "end\n")
+    (decimal r ∷ []) (joined (codes "show" ∷ decimal a ∷ decimal b ∷ []) ++ 10 ∷ codes "end\n")
     (rounds_solid r) (line_counts 114 (codes "ounds") (decimal r ∷ []) refl) refl
     (leave.rounds_leave s r (all_numbers (decimal r ∷ [])) (numbers_are (r ∷ []))) (λ u. refl)
-    (step_says f script (Some kind.Rounds) (leave.played s r 0 0) (leave.played s r r r) kind.Show
-    (codes "show") (decimal r ∷ decimal r ∷ []) (decimal r ∷ decimal r ∷ []) (codes "end\n")
-    (show_solid r r) (line_counts 115 (codes "how") (decimal r ∷ decimal r ∷ []) refl) refl
-    (leave.show_leaves (leave.played s r 0 0) r r (all_numbers (decimal r ∷ decimal r ∷ []))
-    (numbers_are (r ∷ r ∷ []))) (λ u. refl) (end_says f script (leave.played s r r r) is)))
+    (step_says f script (Some kind.Rounds) (leave.played s r 0 0) (leave.played s r a b) kind.Show
+    (codes "show") (decimal a ∷ decimal b ∷ []) (decimal a ∷ decimal b ∷ []) (codes "end\n")
+    (show_solid a b) (line_counts 115 (codes "how") (decimal a ∷ decimal b ∷ []) refl) refl
+    (leave.show_leaves (leave.played s r 0 0) a b (all_numbers (decimal a ∷ decimal b ∷ []))
+    (numbers_are (a ∷ b ∷ []))) (λ u. refl) (end_says f script (leave.played s r a b) is)))
 
 -- ---- all lines
 
@@ -210,24 +210,28 @@ module _ (machine : Machine) (shape : Shape) (shaped : IsShapeOf machine shape) 
     abbrev own_starts : List Start
     own_starts = map (start_said shape) attack.starts
 
+    abbrev ending : List ℕ
+    ending = rounds_text attack.rounds attack.first attack.last
+
     lines_say : Says f script (at f (Some kind.StartNoise) begun)
         (flat_map (start_text machine) attack.starts
-        ++ (flat_map (lie_text machine) attack.lies ++ rounds_text attack.rounds))
+        ++ (flat_map (lie_text machine) attack.lies ++ ending))
     lines_say =
         starts_say machine shape shaped attack.faulty (key_bytes attack.key) f script []
         attack.starts (Some kind.StartNoise)
-        (flat_map (lie_text machine) attack.lies ++ rounds_text attack.rounds) (λ next.
+        (flat_map (lie_text machine) attack.lies ++ ending) (λ next.
         lies_say machine shape shaped attack.faulty (key_bytes attack.key) f script own_starts []
-        attack.lies next (rounds_text attack.rounds) (λ last.
+        attack.lies next ending (λ last.
         last_says f script
         (leave.with_lies machine shape shaped attack.faulty (key_bytes attack.key)
-        own_starts (map (lie_said shape) attack.lies)) attack.rounds last refl))
+        own_starts (map (lie_said shape) attack.lies)) attack.rounds attack.first attack.last last
+        refl))
 
     text_says : Says f script (at f None empty) (attack_text machine attack)
     text_says =
         let key = key_text attack.key in
         let rest = flat_map (start_text machine) attack.starts
-        ++ (flat_map (lie_text machine) attack.lies ++ rounds_text attack.rounds) in
+        ++ (flat_map (lie_text machine) attack.lies ++ ending) in
         let begins = joined (codes "start" ∷ codes "noise" ∷ []) ++ 10 ∷ rest in
         let seeds = joined (codes "seed" ∷ key ∷ []) ++ 10 ∷ begins in
         let names = map decimal attack.faulty in

@@ -1,6 +1,6 @@
 -- The text of an attack is read as its script if no line of it is refused.
-use Rattle.std.proofs.Common.{◌≡◌, ℕ, ◌<◌, ◌≤◌, false, List, [], ◌∷◌, ◌++◌, length, map, Option}
-use Rattle.std.proofs.Common.{Some, None, Ok, refl, sym, ap, ◌∙◌, append_assoc, arith, nat_lt}
+use Rattle.std.proofs.Common.{◌≡◌, ℕ, ◌^◌, ◌<◌, ◌≤◌, false, List, [], ◌∷◌, ◌++◌, length, map}
+use Rattle.std.proofs.Common.{Option, Some, None, Ok, refl, sym, ap, ◌∙◌, append_assoc, arith, nat_lt}
 use Rattle.std.specs.Prelude.{decimal, codes, true}
 use Rattle.std.specs.List.{flat_map, AllByRecursion}
 use Rattle.std.proofs.lemmas.Bool.{le-ltb}
@@ -55,6 +55,8 @@ pub record IsSoundAttack (n f : ℕ) (attack : Attack) : Type 0 where
   pub many : length attack.lies ≤ 256
   pub lies : AllByRecursion (IsToldBy n attack.faulty) attack.lies
   pub rounds : attack.rounds ≤ most_rounds
+  pub order : attack.first ≤ attack.last
+  pub shown : attack.last ≤ attack.rounds
 
 -- a line with its newline before more
 abbrev ended_by : (line rest : List ℕ) → List ℕ
@@ -70,12 +72,13 @@ show_passes : (s : Script) (a b : ℕ) → nat_lt b a ≡ false → nat_lt s.rou
     → show_tested s (Some (a ∷ b ∷ [])) ≡ Ok (record s { first = a; last = b })
 show_passes s a b order shown = rw (order, shown) refl
 
-module _ (f : ℕ) (s : Script) (r : ℕ) (few : r ≤ most_rounds) (reach : last_first s ≤ r) where
+module _ (f : ℕ) (s : Script) (r a b : ℕ) (few : r ≤ most_rounds) (reach : last_first s ≤ r)
+    (order : a ≤ b) (shown : b ≤ r) where
   abbrev played : Script
   played = record s { rounds = r; first = 0; last = 0 }
 
   abbrev over : Script
-  over = record s { rounds = r; first = r; last = r }
+  over = record s { rounds = r; first = a; last = b }
 
   rounds_is : IsLineOf kind.Rounds (rounds_line r) (decimal r ∷ [])
   rounds_is = record {
@@ -88,34 +91,41 @@ module _ (f : ℕ) (s : Script) (r : ℕ) (few : r ≤ most_rounds) (reach : las
     kind = refl;
   }
 
-  show_is : IsLineOf kind.Show (show_line r r) (decimal r ∷ decimal r ∷ [])
-  show_is =
-      let plain = number_plain r (omega (arith, few)) in
-      record {
-        plain = (record { some = omega arith; above = refl }, (plain, (plain, tt)));
-        short = omega (arith, number_short r (omega (arith, few)));
-        counted = line_counts 115 (codes "how") (decimal r ∷ decimal r ∷ []) refl;
-        kind = refl;
-      }
+  first_fits : a < 10 ^ 15
+  first_fits = omega (arith, few, order, shown)
+
+  last_fits : b < 10 ^ 15
+  last_fits = omega (arith, few, shown)
+
+  show_is : IsLineOf kind.Show (show_line a b) (decimal a ∷ decimal b ∷ [])
+  show_is = record {
+    plain = (
+      record { some = omega arith; above = refl },
+      (number_plain a first_fits, (number_plain b last_fits, tt)),
+    );
+    short = omega (arith, number_short a first_fits, number_short b last_fits);
+    counted = line_counts 115 (codes "how") (decimal a ∷ decimal b ∷ []) refl;
+    kind = refl;
+  }
 
   rounds_step : rounds_tested s (Some (r ∷ [])) ≡ Ok played
   rounds_step = rounds_pass s r (le-ltb most_rounds r few) (le-ltb r (last_first s) reach)
 
-  show_step : show_tested played (Some (r ∷ r ∷ [])) ≡ Ok over
-  show_step = show_passes played r r (le-ltb r r (omega arith)) (le-ltb r r (omega arith))
+  show_step : show_tested played (Some (a ∷ b ∷ [])) ≡ Ok over
+  show_step = show_passes played a b (le-ltb b a order) (le-ltb r b shown)
 
   last_end : (k : Option Kind) → IsLied k
-      → End (at f k s) (rounds_line r ∷ show_line r r ∷ end_line ∷ []) over
+      → End (at f k s) (rounds_line r ∷ show_line a b ∷ end_line ∷ []) over
   last_end k may =
       let rounds = lead_line f k s played kind.Rounds (rounds_line r) (decimal r ∷ []) rounds_is
       may.rounds (rw (number_read r (omega (arith, few))) rounds_step) refl in
-      let shows = lead_line f (Some kind.Rounds) played over kind.Show (show_line r r)
-      (decimal r ∷ decimal r ∷ []) show_is refl
-      (rw (number_read r (omega (arith, few))) show_step) refl in
+      let shows = lead_line f (Some kind.Rounds) played over kind.Show (show_line a b)
+      (decimal a ∷ decimal b ∷ []) show_is refl
+      (rw (number_read a first_fits, number_read b last_fits) show_step) refl in
       lead_end (at f k s) (at f (Some kind.Rounds) played) over (rounds_line r ∷ [])
-      (show_line r r ∷ end_line ∷ []) rounds
+      (show_line a b ∷ end_line ∷ []) rounds
       (lead_end (at f (Some kind.Rounds) played) (at f (Some kind.Show) over) over
-      (show_line r r ∷ []) (end_line ∷ []) shows (end_here f over))
+      (show_line a b ∷ []) (end_line ∷ []) shows (end_here f over))
 
 -- ---- the attack
 
@@ -207,7 +217,7 @@ module _ (machine : Machine) (shape : Shape) (shaped : IsShapeOf machine shape)
   abbrev behind : Lines
   behind =
       map (lie_line [] shape) said
-      ++ rounds_line attack.rounds ∷ show_line attack.rounds attack.rounds ∷ end_line ∷ []
+      ++ rounds_line attack.rounds ∷ show_line attack.first attack.last ∷ end_line ∷ []
 
   abbrev lines : Lines
   lines =
@@ -245,12 +255,12 @@ module _ (machine : Machine) (shape : Shape) (shaped : IsShapeOf machine shape)
 
   lines_end : End (at f None empty) lines (record told {
     rounds = attack.rounds;
-    first = attack.rounds;
-    last = attack.rounds;
+    first = attack.first;
+    last = attack.last;
   })
   lines_end =
       let script : Script =
-      record told { rounds = attack.rounds; first = attack.rounds; last = attack.rounds } in
+      record told { rounds = attack.rounds; first = attack.first; last = attack.last } in
       let borne = sound.borne in
       let many : length said ≤ 256 =
       omega (arith, length-map attack.lies (lie_said shape), sound.many) in
@@ -271,12 +281,13 @@ module _ (machine : Machine) (shape : Shape) (shaped : IsShapeOf machine shape)
       (common_line common.Noise ∷ []) behind starts
       (goes_end f IsLied (at f (Some kind.StartNoise) begun) told script
       (map (lie_line [] shape) said)
-      (rounds_line attack.rounds ∷ show_line attack.rounds attack.rounds ∷ end_line ∷ [])
+      (rounds_line attack.rounds ∷ show_line attack.first attack.last ∷ end_line ∷ [])
       (lies_lead f begun few no_groups fits limited (Some kind.StartNoise)
       (record { lie = refl; rounds = refl }) [] said many
       (All-from_recursion (IsTold f begun few no_groups fits limited) said
       (lies_told attack.lies sound.lies)))
-      (last_end f told attack.rounds sound.rounds (omega arith))))))
+      (last_end f told attack.rounds attack.first attack.last sound.rounds (omega arith) sound.order
+      sound.shown)))))
 
   -- ---- the text
 
@@ -314,14 +325,16 @@ module _ (machine : Machine) (shape : Shape) (shaped : IsShapeOf machine shape)
   text_is =
       let r = attack.rounds in
       let key = key_text attack.key in
-      let last : Lines = rounds_line r ∷ show_line r r ∷ end_line ∷ [] in
-      let rest = flat_map (lie_text machine) attack.lies ++ rounds_text r in
+      let a = attack.first in
+      let b = attack.last in
+      let last : Lines = rounds_line r ∷ show_line a b ∷ end_line ∷ [] in
+      let rest = flat_map (lie_text machine) attack.lies ++ rounds_text r a b in
       let noise = joined (common_line common.Noise) in
-      let ends : rounds_text r ≡ text_of (map joined last) =
-      last_lines r
+      let ends : rounds_text r a b ≡ text_of (map joined last) =
+      last_lines r a b
       ∙ ap (λ (text : List ℕ). joined (rounds_line r) ++ 10 ∷ text)
-      (line_more (joined (show_line r r)) (codes "end\n"))
-      ∙ line_more (joined (rounds_line r)) (text_of (map joined (show_line r r ∷ end_line ∷ []))) in
+      (line_more (joined (show_line a b)) (codes "end\n"))
+      ∙ line_more (joined (rounds_line r)) (text_of (map joined (show_line a b ∷ end_line ∷ []))) in
       let tail : rest ≡ text_of (map joined behind) =
       ap (λ (text : List ℕ). flat_map (lie_text machine) attack.lies ++ text) ends
       ∙ lies_are attack.lies last sound.lies in

@@ -64,6 +64,6 @@ module _ (shape : Shape) where
     groups = [];
     lies = map lie_said attack.lies;
     rounds = attack.rounds;
-    first = attack.rounds;
-    last = attack.rounds;
+    first = attack.first;
+    last = attack.last;
   }

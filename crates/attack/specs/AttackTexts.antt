@@ -72,14 +72,15 @@ unfoldable pub lie_text : Machine → LieLine → List ℕ
 lie_text machine lie =
     lie_front lie ++ (say_text machine lie.sender lie.says ++ codes "\n")
 
--- how many rounds are played; the last configuration is shown
-abbrev pub rounds_text : (rounds : ℕ) → List ℕ
-rounds_text rounds =
-    codes "rounds" ++ (spaced rounds ++ (codes "\nshow" ++ (spaced rounds
-    ++ (spaced rounds ++ codes "\nend\n"))))
+-- how many rounds are played, and which configurations are shown
+abbrev pub rounds_text : (rounds first last : ℕ) → List ℕ
+rounds_text rounds first last =
+    codes "rounds" ++ (spaced rounds ++ (codes "\nshow" ++ (spaced first
+    ++ (spaced last ++ codes "\nend\n"))))
 
 abbrev pub attack_text : Machine → Attack → List ℕ
 attack_text machine attack =
     faulty_text attack.faulty ++ (seed_text attack.key
     ++ (flat_map (start_text machine) attack.starts
-    ++ (flat_map (lie_text machine) attack.lies ++ rounds_text attack.rounds)))
+    ++ (flat_map (lie_text machine) attack.lies
+    ++ rounds_text attack.rounds attack.first attack.last)))

@@ -54,10 +54,6 @@ pub record KindsAreSpelled : Type 0 where
       (around_zeros (codes "script 1\nfaulty 1 5\nseed 5e41ab087439611e")
       (codes "\nstart noise\nlie 0 29 1 to 0 6 noise\nlie 0 29 5 to 0 6 noise\n"
       ++ codes "rounds 30\nshow 30 30\nend\n"))
-  pub half : IsFirstTry seven 1 kind.Half
-      (around_zeros (codes "script 1\nfaulty 5 6\nseed 5e41ab087439611e")
-      (codes "\nstart noise\nlie 0 29 5 to 0 6 noise\nlie 0 29 6 to 0 6 noise\n"
-      ++ codes "rounds 30\nshow 30 30\nend\n"))
   pub frozen : IsFirstTry four 3 kind.Frozen
       (around_zeros (codes "script 1\nfaulty 3\nseed bccdfd9c96a18897")
       (codes "\nstart noise\nlie 0 575 3 to 0 3 hex 98\nrounds 576\nshow 576 576\nend\n"))
@@ -66,13 +62,22 @@ pub record KindsAreSpelled : Type 0 where
       (codes "\nstart noise\nlie 0 575 0 to 0 2 hex 86e8\nlie 0 575 0 to 0 3 hex 2caa\n"
       ++ codes "rounds 576\nshow 576 576\nend\n"))
   pub king : IsFirstTry four 4 kind.King
-      (around_zeros (codes "script 1\nfaulty 0\nseed a0567ef80dedf5cb")
-      (codes "\nstart noise\nlie 335 484 0 to 0 3 noise\nlie 207 211 0 to 0 3 noise\n"
-      ++ codes "lie 120 243 0 to 0 3 noise\nrounds 576\nshow 576 576\nend\n"))
+      (around_zeros (codes "script 1\nfaulty 1\nseed a0567ef80dedf5cb")
+      (codes "\nstart noise\nlie 423 436 1 to 0 3 noise\nlie 351 575 1 to 0 3 noise\n"
+      ++ codes "lie 234 234 1 to 0 3 noise\nrounds 576\nshow 576 576\nend\n"))
   pub shadow : IsFirstTry four 10 kind.Shadow
       (around_zeros (codes "script 1\nfaulty 0\nseed 17e757f16cfb68cf")
       (codes "\nstart noise\nlie 0 575 0 to 2 2 shift 3\nlie 0 575 0 to 0 3 shift 1\n"
       ++ codes "lie 0 575 0 to 2 3 copy 2\nrounds 576\nshow 576 576\nend\n"))
+  pub left : IsFirstTry seven 1 kind.Left
+      (around_zeros (codes "script 1\nfaulty 0 1\nseed 5e41ab087439611e")
+      (codes "\nstart noise\nlie 0 29 0 to 0 4 shift 8\nlie 0 29 0 to 0 6 shift 0\n"
+      ++ (codes "lie 0 29 1 to 0 4 shift 0\nlie 0 29 1 to 0 6 shift 3\n"
+      ++ codes "rounds 30\nshow 30 30\nend\n")))
+  pub right : IsFirstTry four 1 kind.Right
+      (around_zeros (codes "script 1\nfaulty 1\nseed 5e41ab087439611e")
+      (codes "\nstart noise\nlie 147 160 1 to 0 3 noise\nlie 0 575 1 to 0 3 hex 041e\n"
+      ++ codes "rounds 576\nshow 576 576\nend\n"))
 
 -- an attack with starts, and with a lie of each content
 abbrev pub mixed_attack : Attack
@@ -86,6 +91,8 @@ mixed_attack = record {
       ∷ record { first = 5; last = 5; sender = 1; from = 0; to = 1; says = say.Drawn 9 }
       ∷ record { first = 7; last = 90; sender = 1; from = 3; to = 3; says = say.Shift 6 } ∷ [];
   rounds = 100;
+  first = 97;
+  last = 99;
 }
 
 abbrev pub MixedIsSpelled : Type 0
@@ -93,7 +100,7 @@ MixedIsSpelled = IsSpelled four mixed_attack
     (around_zeros (codes "script 1\nfaulty 1\nseed 0000000000000005")
     (codes "\nstart noise\nstart node 0 001c\nstart node 3 30\nlie 0 99 1 to 0 3 noise\n"
     ++ (codes "lie 2 4 1 to 2 2 copy 3\nlie 5 5 1 to 0 1 hex 6462\nlie 7 90 1 to 3 3 shift 6\n"
-    ++ codes "rounds 100\nshow 100 100\nend\n")))
+    ++ codes "rounds 100\nshow 97 99\nend\n")))
 
 -- ---- changes
 
@@ -110,6 +117,8 @@ old = record {
   starts = record { node = 2; seed = 8 } ∷ [];
   lies = noisy ∷ copying ∷ [];
   rounds = 100;
+  first = 100;
+  last = 100;
 }
 
 -- the change that a seed draws makes that of the attack, on seven nodes

@@ -11,7 +11,6 @@ use Rattle.program_words.specs.declared.errors.ProgramError.TheVariants as error
 use Rattle.attack.specs.declared.finding.Found.{Found}
 use Rattle.attack.specs.declared.plans.AnyPlan.{AnyPlan}
 use Rattle.attack.specs.declared.reasons.AttackReason.{AttackReason}
-use Rattle.attack.specs.declared.reasons.AttackReason.TheVariants as reason
 use Rattle.attack.specs.declared.requests.Numbers.{Numbers}
 use Rattle.attack.specs.Found.{Finds}
 use Rattle.attack.specs.HelpText.{help_text, version_text}
@@ -35,10 +34,9 @@ module _ (numbers : Numbers) (words : List (List ℕ)) (input : List ℕ) where
     pub found : Found
     pub attacked : IsAttacked found holds
 
-  -- why there is no attack: the input is refused; some attack that is tried is always a script
+  -- why there is no attack: the input is refused
   abbrev pub IsRefused : AttackReason → Type 0
-  IsRefused reason.NoScript = ⊥
-  IsRefused other = plan_answer input ≡ Err other
+  IsRefused reason = plan_answer input ≡ Err reason
 
   -- What was written of an input: the texts of its plan and of the attack on it; or nothing, if
   -- there is no attack for this reason, or memory was refused; or a prefix of the texts.

@@ -1,5 +1,6 @@
 -- Sets of faulty nodes that are drawn: rising ids, so many of so many nodes.
-use Rattle.std.specs.Prelude.{ℕ, zero, suc, ◌+◌, ◌-◌, ◌==◌, not, Bool, List, length, slice_set}
+use Rattle.std.specs.Prelude.{ℕ, zero, suc, ◌+◌, ◌*◌, ◌==◌, nat_lt, if◌then◌else◌, not}
+use Rattle.std.specs.Prelude.{Bool, List, length, map, slice_set}
 use Rattle.std.specs.List.{list_any, filter, range_with_len, remove}
 use Rattle.attack.specs.Draws.{below}
 
@@ -22,9 +23,19 @@ left_over seed ids (suc count) =
 unfoldable pub chosen : (seed nodes count : ℕ) → List ℕ
 chosen seed nodes count = others nodes (left_over seed (range_with_len 0 nodes) count)
 
--- so many ids side by side
-abbrev pub side_by_side : (seed nodes count : ℕ) → List ℕ
-side_by_side seed nodes count = range_with_len (below seed 0 (nodes + 1 - count)) count
+-- Of the kings of both halves of a halving plan, whose left half tolerates so many faults, the one
+-- at a place: they are the first nodes of each half, those of the left half first.
+abbrev pub king_at : (left place : ℕ) → ℕ
+king_at left place = if nat_lt left place then place + 2 * left else place
+
+-- the place of king i of those that are left without the one at a place
+abbrev pub place_past : (without i : ℕ) → ℕ
+place_past without i = if nat_lt i without then i else i + 1
+
+-- so many kings, without the one at a place
+abbrev pub kings_but : (left without count : ℕ) → List ℕ
+kings_but left without count =
+    map (λ i. king_at left (place_past without i)) (range_with_len 0 count)
 
 -- the faulty ids, when a correct one takes the place of a faulty one
 abbrev pub exchanged : (nodes : ℕ) → (faulty : List ℕ) → (place : ℕ) → (old : ℕ) → List ℕ

@@ -12,6 +12,9 @@ pub mod Targets
 pub mod Tried
 pub mod Searches
 pub mod SearchLaws
+pub mod Lean
+pub mod LeanLaws
+pub mod RequestsWorked
 pub mod Conduct
 pub mod Found
 pub mod HelpText
@@ -22,4 +25,5 @@ pub mod ReadBack
 pub mod Reasons
 pub mod Requests
 pub mod AttacksWorked
+pub mod TriesWorked
 pub mod FreshLaws

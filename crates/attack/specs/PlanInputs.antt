@@ -36,8 +36,8 @@ abbrev pub is_first : Option ℕ → (line : ℕ) → Bool
 is_first None line = true
 is_first (Some first) line = first == line
 
--- by what a text is as a halving plan: if its first line that counts is not that of a halving plan, it
--- is read as one of levels over blocks
+-- by what a text is as a halving plan: if its first line that counts is not that of a halving plan,
+-- it is read as one of levels over blocks
 abbrev pub plan_by : (first : Option ℕ) → (text : List ℕ)
     → Result HalvingNumbers (At LinePremise) → Result AnyPlan AttackReason
 plan_by first text (Ok own) = Ok (plan.Halving own)

@@ -30,11 +30,8 @@ plan_line line failed = concat (
 abbrev pub reason_text : AttackReason → List ℕ
 reason_text (reason.Boosting refusal) = plan_line refusal.line refusal.premise
 reason_text (reason.Halving refusal) = halving.refusal_line refusal.line refusal.premise
-reason_text reason.NoScript = codes "no attack that was tried is a script\n"
 
--- the code is that of the word `run` for the same cause, and that of a refused script if none was
--- found
+-- the code is that of the word `run` for the same cause
 abbrev pub code_for : AttackReason → ℕ
 code_for (reason.Boosting refusal) = 1
 code_for (reason.Halving refusal) = 1
-code_for reason.NoScript = 3

@@ -7,13 +7,17 @@ ghost use Rattle.attack.specs.Conduct.{DoesAsked, LeavesUnsaid, asked_of};
 ghost use Rattle.attack.specs.DrawsWorked.{DrawsAreWorked};
 ghost use Rattle.attack.specs.FreshLaws.{PlansAreAttacked};
 ghost use Rattle.attack.specs.ReadBack.{WrittenIsRead};
+ghost use Rattle.attack.specs.RequestsWorked.{RequestsAreWorked};
+ghost use Rattle.attack.specs.TriesWorked.{TriesAreWorked};
 
 use crate::calling::attack_input;
 use crate::finding::Found;
 use crate::laws::written_is_read;
 use crate::reasons::AttackError;
 use crate::requests::{kind_words, request_of};
-use crate::search_laws::{attacks_are_worked, draws_are_worked, fresh_attacks_are_read};
+use crate::search_laws::{
+    attacks_are_worked, draws_are_worked, fresh_attacks_are_read, requests_are_worked,
+};
 use edge_io::{Sink, Source, put_all};
 use program_words::{Asked, ProgramError, asked_by};
 use std::alloc::Global;
@@ -56,20 +60,25 @@ pub fn answer<S: Source, K: Sink>(
     ensures read_back { WrittenIsRead }
 
     // A search of at least one try finds an attack on every accepted plan: each attack that is
-    // drawn afresh is a script for it. So `NoScript` never comes.
+    // drawn afresh is a script for it.
     ensures found { PlansAreAttacked }
 
     // The numbers that are drawn are those of SplitMix64: the first two of seed 0, as an example.
     ensures draws { DrawsAreWorked }
 
-    // Worked values: the first try of each kind on a small plan, letter by letter, and what small
-    // changes make of an attack.
+    // Worked values: what words ask for.
+    ensures requests { RequestsAreWorked }
+
+    // Worked values: the first try of each kind on a small plan, letter by letter, what small
+    // changes make of an attack, and the tries of a search before and after its fresh ones.
     ensures worked { AttacksAreWorked }
+    ensures tries { TriesAreWorked }
 {
     written_is_read();
     draws_are_worked();
     attacks_are_worked();
     fresh_attacks_are_read();
+    requests_are_worked();
     match asked_by(words, request_of(words)) {
         Asked::Help => {
             put_all(sink, HELP)?;

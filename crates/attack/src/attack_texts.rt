@@ -248,21 +248,20 @@ fn push_lies<M: Machine>(
     Ok(())
 }
 
-fn push_rounds(rounds: u64, out: &mut Vec<u8>) -> Result<(), NoMemory>
-    ensures { OnOk result (out.new.items ≡ out.old.items ++ rounds_text rounds) }
+fn push_rounds(rounds: u64, first: u64, last: u64, out: &mut Vec<u8>) -> Result<(), NoMemory>
+    ensures { OnOk result (out.new.items ≡ out.old.items ++ rounds_text rounds first last) }
 {
     push_text(b"rounds", out)?;
     push_spaced(rounds, out)?;
     push_text(b"\nshow", out)?;
-    push_spaced(rounds, out)?;
-    push_spaced(rounds, out)?;
+    push_spaced(first, out)?;
+    push_spaced(last, out)?;
     push_text(b"\nend\n", out)
 }
 
 impl Attack {
-    /// The script that says the attack, for a machine: of version 1, with one era, the start of all
-    /// nodes in noise, and the last configuration alone shown. Whether it is a script for that
-    /// machine shows when it is read.
+    /// The script that says the attack, for a machine: of version 1, with one era, and the start of
+    /// all nodes in noise. Whether it is a script for that machine shows when it is read.
     pub fn text<M: Machine>(&self, alloc: Global, machine: &M) -> Result<Vec<u8>, NoMemory>
         ensures { IfOk result (λ text. text.items
             ≡ attack_text (M.machine machine.now) self.now) }
@@ -272,7 +271,7 @@ impl Attack {
         push_seed(self.key, &mut text)?;
         push_starts(alloc, machine, &self.starts, &mut text)?;
         push_lies(alloc, machine, &self.lies, &mut text)?;
-        push_rounds(self.rounds, &mut text)?;
+        push_rounds(self.rounds, self.first, self.last, &mut text)?;
         Ok(text)
     }
 }

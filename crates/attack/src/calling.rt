@@ -10,7 +10,6 @@ use crate::plans::AnyPlan;
 use crate::reading::read_any_plan;
 use crate::reasons::AttackError;
 use crate::requests::{Numbers, named_kinds};
-use crate::search_laws::fresh_attacks_are_read;
 use edge_io::{Sink, Source, WriteFault, put_all, read_all};
 use program_words::ProgramError;
 use std::alloc::Global;
@@ -36,7 +35,6 @@ fn attack_text<K: Sink>(
     ensures { Attacks numbers (map string_bytes words.now) input.now result
         (K.told sink.old) (K.told sink.new) }
 {
-    fresh_attacks_are_read();
     let kinds = named_kinds(alloc, words)?;
     let plan = read_any_plan(alloc, input)?;
     let (text, found) = find(alloc, &plan, numbers, &kinds)?;
@@ -52,7 +50,7 @@ fn attack_text<K: Sink>(
 /// is no plan; `TooLong` only if the byte after the limit was there. `ReadFault` and `WriteFault`
 /// come only if the source, before its end, or the sink counted a fault, and `NoMemory` if memory
 /// was refused. Nothing was written then, but at `WriteFault` a prefix of the text. `Usage` never
-/// comes, and nor does `NoScript`: of at least one try some attack is a script for the plan.
+/// comes.
 pub fn attack_input<S: Source, K: Sink>(
     alloc: Global,
     numbers: Numbers,

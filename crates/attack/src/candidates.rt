@@ -39,13 +39,15 @@ pub struct LieLine {
 
 /// What an adversary does with a counter: the faulty nodes, the number of the key of the noise in
 /// which the other nodes start, the nodes that start in a state of their own, what the faulty ones
-/// say, and how many rounds are played.
+/// say, how many rounds are played, and the first and the last configuration that is shown.
 pub struct Attack {
     pub(crate) faulty: Vec<u32>,
     pub(crate) key: u64,
     pub(crate) starts: Vec<StartLine>,
     pub(crate) lies: Vec<LieLine>,
     pub(crate) rounds: u64,
+    pub(crate) first: u64,
+    pub(crate) last: u64,
 }
 
 // Written out, so that code that drops one has a single call.
@@ -57,6 +59,8 @@ impl Drop for Attack {
             starts,
             lies,
             rounds: _,
+            first: _,
+            last: _,
         } = self;
         drop(faulty);
         drop(starts);
@@ -75,6 +79,8 @@ impl Model for Attack {
       starts = a.starts.items;
       lies = a.lies.items;
       rounds = a.rounds;
+      first = a.first;
+      last = a.last;
     } };
 }
 
@@ -92,6 +98,8 @@ impl Attack {
             starts,
             lies,
             rounds: self.rounds,
+            first: self.first,
+            last: self.last,
         })
     }
 }

@@ -209,7 +209,7 @@ fn remove_start(starts: &mut Vec<StartLine>, place: u64)
 }
 
 /// Takes the lie at a place away, if there is one.
-fn remove_lie(lies: &mut Vec<LieLine>, place: u64)
+pub(crate) fn remove_lie(lies: &mut Vec<LieLine>, place: u64)
     ensures { lies.new.items ≡ remove lies.old.items place }
 {
     let place = place as usize;

@@ -2,10 +2,11 @@
 //!
 //! `NoMemory` comes from each call that gives it if memory was refused.
 
-ghost use Rattle.std.specs.Prelude.{◌≡◌, ◌≤◌, length, slice_index, slice_set, IfOk};
+ghost use Rattle.std.specs.Prelude.{◌≡◌, ◌+◌, ◌≤◌, length, slice_index, slice_set, IfOk};
 ghost use Rattle.std.specs.List.{range_with_len, remove};
-ghost use Rattle.attack.specs.FaultyIds.{is_among, others, left_over, chosen, side_by_side};
-ghost use Rattle.attack.specs.FaultyIds.{exchanged};
+ghost use Rattle.halving_plan.specs.Trees.{left_part};
+ghost use Rattle.attack.specs.FaultyIds.{is_among, others, left_over, chosen};
+ghost use Rattle.attack.specs.FaultyIds.{king_at, place_past, kings_but, exchanged};
 
 use crate::draws::Lot;
 use std::alloc::Global;
@@ -73,21 +74,54 @@ pub(crate) fn chosen(alloc: Global, lot: Lot, nodes: u32, count: u32) -> Result<
     others(alloc, nodes, &rest)
 }
 
-/// So many ids of at most 256 nodes, side by side, that are drawn.
-pub(crate) fn side_by_side(
+/// How many faults the left half tolerates of a halving plan that tolerates so many.
+pub(crate) fn left_part(faults: u32) -> u32
+    requires { faults ≤ 256 }
+    ensures { result ≡ left_part faults }
+{
+    5 * faults / 13
+}
+
+/// The king at a place among those of both halves, whose left half tolerates so many faults.
+fn king_at(left: u32, place: u32) -> u32
+    requires left { left ≤ 256 }
+    requires place { place ≤ 257 }
+    ensures { result ≡ king_at left place }
+{
+    if left < place {
+        return place + 2 * left;
+    }
+    place
+}
+
+/// The place of king `i` of those that are left without the one at a place.
+fn place_past(without: u32, i: u32) -> u32
+    requires { i ≤ 256 }
+    ensures value { result ≡ place_past without i }
+    ensures most { result ≤ i + 1 }
+{
+    if i < without {
+        return i;
+    }
+    i + 1
+}
+
+/// So many kings of both halves, without the one at a place. The left half tolerates so many
+/// faults.
+pub(crate) fn kings_but(
     alloc: Global,
-    lot: Lot,
-    nodes: u32,
+    left: u32,
+    without: u32,
     count: u32,
 ) -> Result<Vec<u32>, NoMemory>
-    requires few { nodes ≤ 256 }
-    requires among { count ≤ nodes }
-    ensures { IfOk result (λ ids. ids.items ≡ side_by_side lot.seed nodes count) }
+    requires left { left ≤ 256 }
+    requires few { count ≤ 256 }
+    ensures { IfOk result (λ ids. ids.items ≡ kings_but left without count) }
 {
-    let first = lot.below(0, u64::from(nodes + 1 - count)) as u32;
     let mut ids = Vec::new(alloc);
     for i in 0..count {
-        ids.push(first + i).map_err(|_| NoMemory)?;
+        let id = king_at(left, place_past(without, i));
+        ids.push(id).map_err(|_| NoMemory)?;
     }
     Ok(ids)
 }

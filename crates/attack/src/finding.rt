@@ -1,18 +1,18 @@
 //! Finds an attack on a plan.
 
-ghost use Rattle.std.specs.Prelude.{MatchResult};
-ghost use Rattle.attack.specs.Found.{Finds, FailsToFind};
+ghost use Rattle.std.specs.Prelude.{◌≤◌, IfOk};
+ghost use Rattle.attack.specs.Found.{Finds};
+ghost use Rattle.attack.specs.PlanTexts.{IsAcceptedPlan};
 
 use crate::drawing::Drawing;
 use crate::kinds::Kind;
 use crate::plans::AnyPlan;
-use crate::reasons::{AttackError, AttackReason};
 use crate::requests::Numbers;
-use crate::search_laws::searches_find_best;
+use crate::search_laws::{fresh_attacks_are_read, lean_is_as_late, searches_find_best};
 use crate::targets::Target;
 use machines::Machine;
-use program_words::ProgramError;
 use std::alloc::Global;
+use sync_types::NoMemory;
 
 /// What is said of an attack that was found.
 #[derive(Clone, Copy, Debug, PartialEq, Eq)]
@@ -23,22 +23,22 @@ pub struct Found {
     pub bound: u64,
 }
 
-/// Tries attacks of these kinds on a plan: the text of the one that locks latest, and what is said
-/// of it.
-///
-/// `NoScript` comes exactly if none of them is read as a script, and `NoMemory` if memory was
-/// refused.
+/// Tries attacks of these kinds on an accepted plan, at least one: the text of the one that locks
+/// latest, without lies that it does not need, and what is said of it. The only error is want of
+/// memory.
 pub fn find(
     alloc: Global,
     plan: &AnyPlan,
     numbers: Numbers,
     kinds: &[Kind],
-) -> Result<(Vec<u8>, Found), AttackError>
-    ensures { MatchResult result
-        (λ found. Finds plan.now numbers kinds.now found.0.items found.1)
-        (FailsToFind plan.now numbers kinds.now) }
+) -> Result<(Vec<u8>, Found), NoMemory>
+    requires accepted { IsAcceptedPlan plan.now }
+    requires some { 1 ≤ numbers.runs }
+    ensures { IfOk result (λ found. Finds plan.now numbers kinds.now found.0.items found.1) }
 {
     searches_find_best();
+    fresh_attacks_are_read();
+    lean_is_as_late();
     let machine = plan.machine(alloc)?;
     let shape = plan.shape(alloc)?;
     let target = Target::new(&machine, &shape, plan.first_line());
@@ -46,13 +46,14 @@ pub fn find(
     let maker = Drawing::new(alloc, &machine, numbers.seed, numbers.runs, kinds)?;
     match target.search(alloc, &maker, numbers.runs)? {
         Some(best) => {
-            let text = best.attack.text(alloc, &machine)?;
+            let written = target.finish(alloc, best)?;
+            let text = written.attack.text(alloc, &machine)?;
             let found = Found {
-                lock: best.lock,
+                lock: written.lock,
                 bound: machine.bound(),
             };
             Ok((text, found))
         }
-        None => Err(ProgramError::Refused(AttackReason::NoScript)),
+        None => unreachable!(),
     }
 }

@@ -1,9 +1,10 @@
 //! The kinds of attacks.
 
-ghost use Rattle.std.specs.Prelude.{◌≡◌, ◌-◌, ◌∷◌, [], ◌++◌, IfOk, OnOk};
+ghost use Rattle.std.specs.Prelude.{◌≡◌, ◌≤◌, ◌-◌, ◌∷◌, [], ◌++◌, IfOk, OnOk};
 ghost use Rattle.attack.specs.Draws.{drawn, below};
 ghost use Rattle.attack.specs.Kinds.{kind_of, or_all, shadow_say, always, lower_half, at_times};
-ghost use Rattle.attack.specs.Kinds.{shadow, kind_lies, kind_faulty, all_lies, fresh};
+ghost use Rattle.attack.specs.Kinds.{shadow, ahead, is_with_others, lower_ahead, upper_ahead};
+ghost use Rattle.attack.specs.Kinds.{kind_lies, kind_faulty, all_lies, fresh};
 
 use crate::candidates::{Attack, LieLine, Say};
 use crate::drawn_lines::{
@@ -11,7 +12,7 @@ use crate::drawn_lines::{
     whole_span,
 };
 use crate::draws::Lot;
-use crate::faulty_ids::{chosen, side_by_side};
+use crate::faulty_ids::{chosen, kings_but, left_part};
 use std::alloc::Global;
 use sync_types::NoMemory;
 
@@ -24,26 +25,31 @@ pub enum Kind {
     Frozen,
     /// Each says a state to the nodes up to one, and another to the others.
     Split,
-    /// Each says noise in three stretches of rounds.
+    /// Each says noise in three stretches of rounds. They are kings of halves, all but one.
     King,
     /// Each says to nodes what others show, or its own state shifted.
     Shadow,
-    /// Each says noise, and their ids stand side by side.
-    Half,
+    /// The nodes up to one hear of a left half that is ahead of the one that the others hear of.
+    /// The faulty nodes are all kings of the left half, and those of the right half but one.
+    Left,
+    /// Each stands still in a state, but for a stretch of noise. They are all kings of the right
+    /// half, and those of the left half but one.
+    Right,
 }
 
 /// All kinds.
-const KINDS: [Kind; 6] = [
+const KINDS: [Kind; 7] = [
     Kind::Noise,
     Kind::Frozen,
     Kind::Split,
     Kind::King,
     Kind::Shadow,
-    Kind::Half,
+    Kind::Left,
+    Kind::Right,
 ];
 
 impl Kind {
-    /// The kind of a word: `noise`, `frozen`, `split`, `king`, `shadow` or `half`.
+    /// The kind of a word: `noise`, `frozen`, `split`, `king`, `shadow`, `left` or `right`.
     pub fn of(word: &[u8]) -> Option<Kind>
         ensures { result ≡ kind_of word.now }
     {
@@ -62,8 +68,11 @@ impl Kind {
         if word == b"shadow".as_slice() {
             return Some(Kind::Shadow);
         }
-        if word == b"half".as_slice() {
-            return Some(Kind::Half);
+        if word == b"left".as_slice() {
+            return Some(Kind::Left);
+        }
+        if word == b"right".as_slice() {
+            return Some(Kind::Right);
         }
         None
     }
@@ -86,7 +95,50 @@ struct Sender {
     id: u32,
     // The last node that hears the first of two states.
     middle: u32,
+    // By how much what it says to the nodes up to that one is ahead of its own state, and what it
+    // says to the others.
+    lower: u64,
+    upper: u64,
     lot: Lot,
+}
+
+/// By how much one left half is ahead of another one: less than its period.
+fn ahead(lot: Lot, faults: u32) -> u64
+    ensures { result ≡ ahead lot.seed faults }
+{
+    1 + lot.below(4, 3 * u64::from(faults) + 4)
+}
+
+/// Whether a faulty node says its own state to the nodes after the middle one: it is in the left
+/// half, or heard with these.
+fn is_with_others(faults: u32, middle: u32, id: u32) -> bool
+    requires { faults ≤ 256 }
+    ensures { result ≡ is_with_others faults middle id }
+{
+    id <= 3 * left_part(faults) || middle < id
+}
+
+/// By how much it is ahead of its own state to the nodes up to the middle one, if one left half is
+/// so much ahead of the other.
+fn lower_ahead(faults: u32, middle: u32, id: u32, by: u64) -> u64
+    requires { faults ≤ 256 }
+    ensures { result ≡ lower_ahead faults middle id by }
+{
+    if is_with_others(faults, middle, id) {
+        return by;
+    }
+    0
+}
+
+/// By how much it is ahead of it to the others.
+fn upper_ahead(faults: u32, middle: u32, id: u32, by: u64) -> u64
+    requires { faults ≤ 256 }
+    ensures { result ≡ upper_ahead faults middle id by }
+{
+    if is_with_others(faults, middle, id) {
+        return 0;
+    }
+    (3 * u64::from(faults) + 5).saturating_sub(by)
 }
 
 /// A copy of another node, or, one time in four, a shift.
@@ -169,11 +221,11 @@ fn push_three(
 fn push_kind(kind: Kind, sender: Sender, lies: &mut Vec<LieLine>) -> Result<(), NoMemory>
     ensures { OnOk result (lies.new.items ≡ lies.old.items
         ++ kind_lies sender.scope.nodes sender.scope.rounds sender.id kind sender.middle
-        sender.lot.seed) }
+        sender.lower sender.upper sender.lot.seed) }
 {
     let lot = sender.lot;
     match kind {
-        Kind::Noise | Kind::Half => push_lie(lies, sender.always(Say::Noise)),
+        Kind::Noise => push_lie(lies, sender.always(Say::Noise)),
         Kind::Frozen => push_lie(lies, sender.always(Say::Drawn(lot.number(0)))),
         Kind::Split => {
             let first = sender.lower_half(Say::Drawn(lot.number(0)));
@@ -186,6 +238,14 @@ fn push_kind(kind: Kind, sender: Sender, lies: &mut Vec<LieLine>) -> Result<(), 
             sender.at_times(2),
         ),
         Kind::Shadow => push_three(lies, sender.shadow(0), sender.shadow(1), sender.shadow(2)),
+        Kind::Left => {
+            let first = sender.lower_half(Say::Shift(sender.lower));
+            push_two(lies, first, sender.always(Say::Shift(sender.upper)))
+        }
+        Kind::Right => {
+            let frozen = sender.always(Say::Drawn(lot.number(0)));
+            push_two(lies, sender.at_times(1), frozen)
+        }
     }
 }
 
@@ -205,9 +265,10 @@ fn all_lies(
     faulty: &[u32],
 ) -> Result<Vec<LieLine>, NoMemory>
     ensures { IfOk result (λ lies. lies.items
-        ≡ all_lies kind lot.seed scope.nodes scope.rounds faulty.now) }
+        ≡ all_lies kind lot.seed scope.nodes scope.faults scope.rounds faulty.now) }
 {
     let middle = middle_of(lot, scope);
+    let by = ahead(lot, scope.faults);
     let lots = lot.part(3);
     let mut lies = Vec::new(alloc);
     for id in faulty {
@@ -215,6 +276,8 @@ fn all_lies(
             scope,
             id: *id,
             middle,
+            lower: lower_ahead(scope.faults, middle, *id, by),
+            upper: upper_ahead(scope.faults, middle, *id, by),
             lot: lots.part(u64::from(*id)),
         };
         push_kind(kind, sender, &mut lies)?;
@@ -222,14 +285,34 @@ fn all_lies(
     Ok(lies)
 }
 
+/// A place of so many that is drawn.
+fn drawn_place(lot: Lot, count: u32) -> u32
+    requires { count ≤ 257 }
+    ensures value { result ≡ below lot.seed 0 count }
+    ensures most { result ≤ count }
+{
+    lot.below(0, u64::from(count)) as u32
+}
+
 /// The faulty nodes of an attack of a kind.
 fn kind_faulty(alloc: Global, kind: Kind, lot: Lot, scope: Scope) -> Result<Vec<u32>, NoMemory>
     ensures { IfOk result (λ ids. ids.items
         ≡ kind_faulty kind lot.seed scope.nodes scope.faults) }
 {
+    let left = left_part(scope.faults);
     match kind {
-        Kind::Half => side_by_side(alloc, lot, scope.nodes, scope.faults),
-        Kind::Noise | Kind::Frozen | Kind::Split | Kind::King | Kind::Shadow => {
+        Kind::King => kings_but(
+            alloc,
+            left,
+            drawn_place(lot, scope.faults + 1),
+            scope.faults,
+        ),
+        Kind::Left => {
+            let place = left + 1 + drawn_place(lot, scope.faults.saturating_sub(left));
+            kings_but(alloc, left, place, scope.faults)
+        }
+        Kind::Right => kings_but(alloc, left, drawn_place(lot, left + 1), scope.faults),
+        Kind::Noise | Kind::Frozen | Kind::Split | Kind::Shadow => {
             chosen(alloc, lot, scope.nodes, scope.faults)
         }
     }
@@ -249,5 +332,7 @@ pub(crate) fn fresh(alloc: Global, kind: Kind, lot: Lot, scope: Scope) -> Result
         starts: Vec::new(alloc),
         lies,
         rounds: scope.rounds,
+        first: scope.rounds,
+        last: scope.rounds,
     })
 }

@@ -19,7 +19,8 @@
 //! [`Kind`], and then as the best one with a small change. All that it draws depends on a seed.
 //!
 //! A [`Target`] is what is attacked. [`Target::search`] tries the attacks of a maker: the text of
-//! each is read as a script and played, and the one that locks latest is kept.
+//! each is read as a script and played, and the one that locks latest is kept. [`Target::finish`]
+//! takes lies out that it does not need, and has it show the configurations to its lock.
 #![tactic(auto)]
 
 mod asking;
@@ -34,6 +35,7 @@ mod faulty_ids;
 mod finding;
 mod kinds;
 mod laws;
+mod leaning;
 mod makers;
 mod noting;
 mod plans;

@@ -43,8 +43,8 @@ fn read_boosting(alloc: Global, text: &[u8]) -> Result<AnyPlan, AttackError>
 /// The plan that a text is, after which only skipped lines stand: a halving plan, or one of levels
 /// over blocks.
 ///
-/// `Halving` is the first line that fails of a text whose first line that counts is that of a halving
-/// plan, and `Boosting` that of any other text, each with its first premise.
+/// `Halving` is the first line that fails of a text whose first line that counts is that of a
+/// halving plan, and `Boosting` that of any other text, each with its first premise.
 pub fn read_any_plan(alloc: Global, text: &[u8]) -> Result<AnyPlan, AttackError>
     ensures read { IfOk result (λ plan. plan_answer text.now ≡ Ok plan) }
     ensures fails { IfErr result (FailsAs (plan_answer text.now)) }

@@ -2,7 +2,7 @@ ghost use Rattle.std.specs.Prelude.{◌≡◌};
 ghost use Rattle.texts.specs.Growth.{Puts};
 ghost use Rattle.attack.specs.Reasons.{premise_word, plan_line};
 
-use edge_io::{Piece, Sink, WriteFault, put_all, put_pieces};
+use edge_io::{Piece, Sink, WriteFault, put_pieces};
 use halving_texts::HalvingRefusal;
 use plan_reader::PlanRefusal;
 use program_words::{ProgramError, Reason, TOO_LONG};
@@ -15,8 +15,6 @@ pub enum AttackReason {
     Boosting(PlanRefusal),
     /// The input begins as a halving plan, and is none: its first line that fails.
     Halving(HalvingRefusal),
-    /// None of the attacks that were tried is a script for the plan. Of at least one try some is.
-    NoScript,
 }
 
 /// Why an attack was not written, or not all of it.
@@ -24,9 +22,6 @@ pub type AttackError = ProgramError<AttackReason>;
 
 /// The exit code if the input is no plan: that of the word `run` for it.
 const NO_PLAN: u8 = 1;
-
-/// The exit code if no attack is a script: that of the word `run` for a script that is refused.
-const NO_SCRIPT: u8 = 3;
 
 /// The word of a premise, as `counterlab` has it.
 fn premise_word(premise: Premise) -> &'static str
@@ -83,7 +78,6 @@ impl Reason for AttackReason {
     fn code(&self) -> u8 {
         match *self {
             AttackReason::Boosting(_) | AttackReason::Halving(_) => NO_PLAN,
-            AttackReason::NoScript => NO_SCRIPT,
         }
     }
 
@@ -91,7 +85,6 @@ impl Reason for AttackReason {
         match *self {
             AttackReason::Boosting(refusal) => put_plan_line(sink, refusal),
             AttackReason::Halving(refusal) => halving_texts::put_refusal(sink, refusal),
-            AttackReason::NoScript => put_all(sink, b"no attack that was tried is a script\n"),
         }
     }
 }

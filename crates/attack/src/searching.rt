@@ -22,7 +22,7 @@ pub struct Best {
 }
 
 /// Whether a first locked configuration is later than another. None is later than each.
-fn is_later(lock: Option<u64>, than: Option<u64>) -> bool
+pub(crate) fn is_later(lock: Option<u64>, than: Option<u64>) -> bool
     ensures { result ≡ is_later lock than }
 {
     match (lock, than) {

@@ -4,22 +4,13 @@ use Rattle.texts.specs.Growth.{Cut}
 use Rattle.attack.specs.declared.kinds.Kind.{Kind}
 use Rattle.attack.specs.Found.{Finds}
 use Rattle.attack.specs.PlanTexts.{text_of}
-use Rattle.attack.proofs.WrittenAttacks.{faulted, not_found, refused}
+use Rattle.attack.proofs.WrittenAttacks.{faulted, refused}
 use Rattle.attack.proofs.calling.attack_text.Goals as goal
 
 pub returns-in_err-plan : goal.returns-in_err-plan
 returns-in_err-plan g c =
     refused c.args.numbers (map string_bytes c.args.words.now) c.args.input.now _ _ _
     c.in_err-plan.ensures.fails c.from_residual-in_err-plan.ensures.1
-
-pub returns-in_err-text : goal.returns-in_err-text
-returns-in_err-text g c =
-    not_found c.args.numbers (map string_bytes c.args.words.now) c.args.input.now _
-    c.in_ok-plan.plan c.deref.result.now _ _
-    (c.fresh_attacks_are_read.ensures.plans c.in_ok-plan.plan c.in_ok-plan.ensures.accepted
-    c.args.numbers c.deref.result.now c.requires)
-    (c.deref.ensures.value ∙ c.in_ok-kinds.ensures) c.in_err-text.ensures
-    c.from_residual-in_err-text.ensures.1
 
 pub returns-in_err-write_both : goal.returns-in_err-write_both
 returns-in_err-write_both g c =
