@@ -32,16 +32,16 @@ use program_words::{Asked, ProgramError, asked_by};
 use std::alloc::Global;
 
 /// Does what the words ask for. `plan` reads all of the input as a halving plan, which has at most
-/// 2^20 bytes, and writes its table. `run` reads all of an input that is a halving plan and a script
-/// for it, of at most 2^20 bytes together, plays the script, and writes the bound, a row of each
-/// configuration that is shown, and the first locked configuration of each era. `slots` does so
-/// with an input that has a slot table between them, and writes which nodes hold in place of what
-/// they show. `consensus`, `fire` and `log` do so with an input that has between them inputs to
-/// agree on, requests to fire or what a log has, and in place of rows write a line of each slot
+/// 2^20 bytes, and writes its table. `run` reads all of an input that is a halving plan and a
+/// script for it, of at most 2^20 bytes together, plays the script, and writes the bound, a row of
+/// each configuration that is shown, and the first locked configuration of each era. `slots` does
+/// so with an input that has a slot table between them, and writes which nodes hold in place of
+/// what they show. `consensus`, `fire` and `log` do so with an input that has between them inputs
+/// to agree on, requests to fire or what a log has, and in place of rows write a line of each slot
 /// that counts: what its nodes decide, which of them fire, or the entry that they put. `node` reads
 /// a header, which has at most 2^20 bytes, and then packets, and writes the node's cell when the
-/// header has been read, and one after each packet before it asks for more. `--help` and `--version`,
-/// alone, read nothing, and write what they say.
+/// header has been read, and one after each packet before it asks for more. `--help` and
+/// `--version`, alone, read nothing, and write what they say.
 ///
 /// `Usage` comes exactly if the words ask for nothing; nothing was read or written then. `Input`
 /// names the first line of the input that fails, and why; the line of the refusal was written. At
