@@ -97,7 +97,9 @@ class Drawing:
     def __init__(self, plan):
         self.plan, self.nodes, self.faults = plan, plan.nodes, plan.faults
         self.rounds = min(plan.bound, MOST_ROUNDS)
-        self.kinds = [self.noise, self.frozen, self.split, self.king, self.shadow, self.noise]
+        self.left = 5 * self.faults // 13
+        self.kinds = [self.noise, self.frozen, self.split, self.king, self.shadow,
+                      self.ahead, self.astray]
 
     def others(self, ids):
         return [id for id in range(self.nodes) if id not in ids]
@@ -108,9 +110,20 @@ class Drawing:
             del left[below(seed, count, len(left))]
         return self.others(left)
 
-    def side_by_side(self, seed):
-        first = below(seed, 0, self.nodes + 1 - self.faults)
-        return list(range(first, first + self.faults))
+    def kings_but(self, without):
+        """Kings of both halves of a halving plan, without the one at a place."""
+        places = [i if i < without else i + 1 for i in range(self.faults)]
+        return [place + 2 * self.left if self.left < place else place for place in places]
+
+    def kind_faulty(self, kind, seed):
+        left, faults = self.left, self.faults
+        if kind == self.king:
+            return self.kings_but(below(seed, 0, faults + 1))
+        if kind == self.ahead:
+            return self.kings_but(left + 1 + below(seed, 0, faults - left))
+        if kind == self.astray:
+            return self.kings_but(below(seed, 0, left + 1))
+        return self.chosen(seed)
 
     def span(self, seed):
         first = below(seed, 0, self.rounds)
@@ -140,35 +153,47 @@ class Drawing:
         last = self.nodes - 1 if last is None else last
         return Lie(0, self.rounds - 1, sender, 0, last, says)
 
-    def noise(self, sender, middle, seed):
+    def noise(self, sender, middle, by, seed):
         return [self.always(sender, ("noise", None))]
 
-    def frozen(self, sender, middle, seed):
+    def frozen(self, sender, middle, by, seed):
         return [self.always(sender, ("drawn", drawn(seed, 0)))]
 
-    def split(self, sender, middle, seed):
+    def split(self, sender, middle, by, seed):
         lower = self.always(sender, ("drawn", drawn(seed, 0)), middle)
         return [lower, self.always(sender, ("drawn", drawn(seed, 1)))]
 
-    def king(self, sender, middle, seed):
+    def king(self, sender, middle, by, seed):
         noise = ("noise", None)
         spans = [self.span(drawn(seed, place)) for place in range(3)]
         return [Lie(*span, sender, 0, self.nodes - 1, noise) for span in spans]
 
-    def shadow(self, sender, middle, seed):
+    def shadow(self, sender, middle, by, seed):
         return [self.shaded(sender, drawn(seed, place)) for place in range(3)]
+
+    def ahead(self, sender, middle, by, seed):
+        """A left half that is ahead for the nodes up to the middle one."""
+        with_others = sender <= 3 * self.left or middle < sender
+        lower = by if with_others else 0
+        upper = 0 if with_others else 3 * self.faults + 5 - by
+        return [self.always(sender, ("shift", lower), middle),
+                self.always(sender, ("shift", upper))]
+
+    def astray(self, sender, middle, by, seed):
+        """A right half that says one state, and noise in some rounds."""
+        noise = Lie(*self.span(drawn(seed, 1)), sender, 0, self.nodes - 1, ("noise", None))
+        return [noise, self.always(sender, ("drawn", drawn(seed, 0)))]
 
     def shaded(self, sender, seed):
         says = ("copy", below(seed, 7, self.nodes)) if below(seed, 6, 4) else ("shift", shift(seed))
         return Lie(0, self.rounds - 1, sender, *self.hearers(seed), says)
 
     def fresh(self, index, seed):
-        place = index % len(self.kinds)
-        ids = self.side_by_side if place == 5 else self.chosen
-        faulty = ids(drawn(seed, 1))
-        middle = below(seed, 2, self.nodes - 1)
+        kind = self.kinds[index % len(self.kinds)]
+        faulty = self.kind_faulty(kind, drawn(seed, 1))
+        middle, by = below(seed, 2, self.nodes - 1), 1 + below(seed, 4, 3 * self.faults + 4)
         lies = [lie for sender in faulty
-                for lie in self.kinds[place](sender, middle, drawn(drawn(seed, 3), sender))]
+                for lie in kind(sender, middle, by, drawn(drawn(seed, 3), sender))]
         return Attack(faulty, drawn(seed, 0), {}, lies)
 
     def changed(self, seed, attack):
@@ -222,7 +247,9 @@ class Drawing:
         return {"noise": "noise", "copy": f"copy {number}", "shift": f"shift {number}",
                 "drawn": f"hex {self.digits(sender, number)}" if kind == "drawn" else ""}[kind]
 
-    def script(self, attack):
+    def script(self, attack, first=None, last=None):
+        first = self.rounds if first is None else first
+        last = self.rounds if last is None else last
         yield "script 1"
         yield " ".join(["faulty", *map(str, attack.faulty)])
         yield f"seed {attack.key:016x}{0:048x}"
@@ -232,7 +259,7 @@ class Drawing:
         for it in attack.lies:
             told = self.said(it.sender, *it.says)
             yield f"lie {it.first} {it.last} {it.sender} to {it.start} {it.end} {told}"
-        yield from (f"rounds {self.rounds}", f"show {self.rounds} {self.rounds}", "end")
+        yield from (f"rounds {self.rounds}", f"show {first} {last}", "end")
 
 
 def shift(seed):
@@ -254,7 +281,8 @@ def first_locked(script):
 
 
 def attack_of(text, words):
-    """The plan, and the script of the try that locks latest, the last one of these."""
+    """The plan, and the script of the try that locks latest, the last one of these, without lies
+    that it does not need, and with the configurations to its lock."""
     seed, runs = map(int, words)
     (lines,) = parts_of(text)
     plan = plan_of(lines)
@@ -267,7 +295,15 @@ def attack_of(text, words):
         locked = first_locked(Script(plan, list(drawing.script(attack))))
         if locked >= latest:
             best, latest = attack, locked
-    return [*lines, *drawing.script(best)]
+    # each lie is tried twice, from the last one to the first
+    for _ in range(2):
+        for place in reversed(range(len(best.lies))):
+            leaner = best._replace(lies=best.lies[:place] + best.lies[place + 1 :])
+            locked = first_locked(Script(plan, list(drawing.script(leaner))))
+            if locked >= latest:
+                best, latest = leaner, locked
+    lock = min(latest, drawing.rounds)
+    return [*lines, *drawing.script(best, max(lock - 1000, 0), min(lock + 3, drawing.rounds))]
 
 
 # ---- all of them
