@@ -25,8 +25,8 @@ abbrev pub heard_by : (n : ℕ) (faulty : List ℕ) (old : List State) (lies : L
     (v : ℕ) → List State
 heard_by n faulty old lies v = map (heard_of faulty old lies v) (range_with_len 0 n)
 
--- A machine: N nodes, of which F may be faulty, count modulo C from T on. Of each node, what a state
--- shows, and the next one from what is heard of all.
+-- A machine: N nodes, of which F may be faulty, count modulo C from T on. Of each node, what a
+-- state shows, and the next one from what is heard of all.
 pub record Machine : Type 0 where
   pub nodes : ℕ
   pub faults : ℕ

@@ -2,12 +2,12 @@
 //!
 //! A [`HalvingPlan`] is three numbers, of which some are accepted. They stand for a tree of halves,
 //! which is nowhere kept: a [`Group`] of it is made from the one above. From the tree follow the
-//! bound, how many levels there are, how many bits and bytes the states of each node take, and where
-//! in these the output stands.
+//! bound, how many levels there are, how many bits and bytes the states of each node take, and
+//! where in these the output stands.
 //!
-//! A [`HalvingMachine`] is the counter of a plan: the fields of its nodes' states, and the step of a
-//! node from what it hears of all nodes. A step goes down from the group of all nodes to the lowest
-//! half in which the node is. In each group it makes the node's level state anew, by
+//! A [`HalvingMachine`] is the counter of a plan: the fields of its nodes' states, and the step of
+//! a node from what it hears of all nodes. A step goes down from the group of all nodes to the
+//! lowest half in which the node is. In each group it makes the node's level state anew, by
 //! [`LevelState`], which alone knows in which registers of a state a level stands.
 #![tactic(auto)]
 

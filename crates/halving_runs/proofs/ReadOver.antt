@@ -1,5 +1,5 @@
--- A script for a halving plan and states with a layer's registers is one for the plan's machine with
--- the layer above.
+-- A script for a halving plan and states with a layer's registers is one for the plan's machine
+-- with the layer above.
 use Rattle.std.proofs.Common.{◌≡◌, ℕ, ◌≤◌, refl, sym, ◌∙◌, subst, arith}
 use Rattle.state_codec.specs.Shapes.{Shape, shape_nodes}
 use Rattle.counter_core.specs.Overlays.{Layer, LayerFits}

@@ -53,7 +53,8 @@ module _ (machine : Machine) where
     next = machine.step;
   }
 
-  -- The number and the first registers are a state of node v: those of a layer may stand after them.
+  -- The number and the first registers are a state of node v: those of a layer may stand after
+  -- them.
   pub record IsFront (v : ℕ) (state : State) : Type 0 where
     pub deep : machine.depth ≤ length state.registers
     pub front : IsState v (cut machine.depth state)

@@ -82,8 +82,8 @@ module _ {M : Type 0} (machine : M → Machine) where
 abbrev pub EndsWell : {K : Type 0} → (told : K → SinkState) → (old new : Writer K) → Type 0
 EndsWell told old new = Finishes told (let r : Result ℕ NodeFault = Ok 0 in r) old new
 
--- What hearing a packet did to the writer of the cells. Nothing is held back any more if anything was
--- asked of the source (`Still` says that nothing was), and before each answer but a packet.
+-- What hearing a packet did to the writer of the cells. Nothing is held back any more if anything
+-- was asked of the source (`Still` says that nothing was), and before each answer but a packet.
 abbrev pub PassesOn : {K : Type 0} → (told : K → SinkState) → (Still : Type 0)
     → Result Amount NodeFault → (old new : Writer K) → Type 0
 PassesOn told Still (Ok amount.Whole) old new =

@@ -49,8 +49,8 @@ boosted below level = record {
       (level_register below level v heard);
 }
 
--- The lowest level in which its node at a place takes part: that of the block's node, or for a spare
--- this level.
+-- The lowest level in which its node at a place takes part: that of the block's node, or for a
+-- spare this level.
 abbrev pub boosted_low : (below : Meaning) → Level → (low : ℕ → ℕ) → (v : ℕ) → ℕ
 boosted_low below level low v =
     if nat_lt v (level.blocks * below.nodes) then low (v % below.nodes) else below.depth + 1

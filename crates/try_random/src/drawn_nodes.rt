@@ -89,8 +89,8 @@ impl Draws {
     }
 }
 
-/// So many packets of a node that hears only itself. It answers each of them, up to the most that it
-/// takes.
+/// So many packets of a node that hears only itself. It answers each of them, up to the most that
+/// it takes.
 pub fn counting(alloc: Global, packets: u64, code: u8) -> Result<Case, AllocError> {
     let mut input = Vec::from_slice(alloc, COUNTING)?;
     for _ in 0..packets {
